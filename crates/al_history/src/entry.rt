@@ -1,0 +1,183 @@
+use crate::{NumberedRowList, RewrittenList, Shape};
+use al_values::{Name, NameList, Row, RowList};
+
+/// An isolation level (13.2).
+#[derive(Clone, Copy, Debug, PartialEq, Eq)]
+pub enum Level {
+    /// READ COMMITTED.
+    ReadCommitted,
+    /// REPEATABLE READ.
+    RepeatableRead,
+}
+
+/// A reply that is a command tag.
+#[derive(Clone, Copy, Debug, PartialEq, Eq)]
+pub enum Tag {
+    /// `CREATE TABLE`
+    CreateTable,
+    /// `ALTER TABLE`
+    AlterTable,
+    /// `INSERT 0` and the count
+    Insert,
+}
+
+/// What a statement answers.
+#[derive(Clone, Copy, Debug, PartialEq, Eq)]
+pub enum Reply {
+    /// A command tag. The count is 0 where the tag prints none.
+    Tag {
+        /// The tag.
+        tag: Tag,
+        /// The rows that were used.
+        count: u32,
+    },
+    /// The rows of a SELECT.
+    Rows {
+        /// The place of its Read in the journal.
+        entry: u32,
+    },
+}
+
+/// Why a statement was refused. The name is that of the thing that is missing or in the way.
+#[derive(Debug, Drop)]
+pub enum Cause {
+    /// 42P01: no table has the name.
+    NoTable {
+        /// The name.
+        name: Name,
+    },
+    /// 42P07: a table has the name already.
+    TwiceTable {
+        /// The name.
+        name: Name,
+    },
+    /// 42701: a column has the name already.
+    TwiceColumn {
+        /// The name.
+        name: Name,
+    },
+    /// 42601: an INSERT has more values than the table has columns.
+    Count {
+        /// How many columns there are.
+        want: u32,
+        /// How many values are given.
+        got: u32,
+    },
+}
+
+/// A row of a rewritten table.
+#[derive(Debug, Drop)]
+pub struct NumberedRow {
+    /// The row's number.
+    pub number: u32,
+    /// Its values.
+    pub values: Row,
+}
+
+/// A table that an ALTER TABLE rewrote.
+#[derive(Debug, Drop)]
+pub struct Rewritten {
+    /// The table's number.
+    pub table: u32,
+    /// All its rows.
+    pub rows: NumberedRowList,
+}
+
+/// An entry of a journal. Transactions are named by the place of their Start, tables by that of their Make, rows by
+/// that of their Add.
+#[derive(Debug, Drop)]
+pub enum Entry {
+    /// A block is given to a session.
+    Give {
+        /// The session.
+        session: u32,
+        /// The block's number.
+        block: u32,
+    },
+    /// A transaction begins. Its number is this entry's place.
+    Start {
+        /// The session.
+        session: u32,
+        /// The isolation level.
+        level: Level,
+    },
+    /// The place of a statement: what it reads is what stands before.
+    Look {
+        /// The transaction.
+        xact: u32,
+    },
+    /// A table is made. Its number is this entry's place.
+    Make {
+        /// The transaction.
+        xact: u32,
+        /// The table's number.
+        table: u32,
+        /// The table's name.
+        name: Name,
+        /// Its columns.
+        shape: Shape,
+    },
+    /// A row is added. Its number is this entry's place.
+    Add {
+        /// The transaction.
+        xact: u32,
+        /// The table's number.
+        table: u32,
+        /// The row's values.
+        row: Row,
+    },
+    /// What a SELECT read.
+    Read {
+        /// The transaction.
+        xact: u32,
+        /// The names of the columns.
+        names: NameList,
+        /// The rows.
+        rows: RowList,
+    },
+    /// A whole ALTER TABLE.
+    Alter {
+        /// The transaction.
+        xact: u32,
+        /// The table's number.
+        table: u32,
+        /// The statement's number, from 0, in the session's block in hand.
+        statement: u32,
+        /// The tables that were rewritten.
+        rewritten: RewrittenList,
+    },
+    /// A statement ended with a reply.
+    Done {
+        /// The session.
+        session: u32,
+        /// The reply.
+        reply: Reply,
+    },
+    /// A statement was refused.
+    Refuse {
+        /// The session.
+        session: u32,
+        /// The cause.
+        cause: Cause,
+    },
+    /// A transaction is committed.
+    Commit {
+        /// The transaction.
+        xact: u32,
+    },
+    /// A transaction is aborted.
+    Abort {
+        /// The transaction.
+        xact: u32,
+    },
+    /// A step ended.
+    End {
+        /// The session.
+        session: u32,
+    },
+    /// A session is closed.
+    Close {
+        /// The session.
+        session: u32,
+    },
+}

@@ -1,0 +1,40 @@
+//! The journal of a run: its entries, the statements and spec files that it speaks of, and the definitions of what a
+//! journal means, which stand in `specs/`.
+#![tactic(auto)]
+
+mod entry;
+mod history;
+mod run;
+mod spec;
+mod statement;
+
+use al_values::{IdList, ListOf};
+pub use entry::{Cause, Entry, Level, NumberedRow, Reply, Rewritten, Tag};
+pub use history::History;
+pub use run::{Run, Setup};
+pub use spec::{Block, Part, Spec, SpecFault};
+pub use statement::{Column, ScriptBlock, Scripts, Statement};
+
+/// The columns of a table, in order.
+pub type Shape = ListOf<Column>;
+
+/// The statements of a block, in order.
+pub type Script = ListOf<Statement>;
+
+/// The blocks of a run, each with its session and its statements.
+pub type ScriptList = ListOf<ScriptBlock>;
+
+/// The blocks of a spec file, in the file's order.
+pub type BlockList = ListOf<Block>;
+
+/// The permutations of a spec file, each a list of block numbers.
+pub type PermutationList = ListOf<IdList>;
+
+/// Rows that keep their numbers.
+pub type NumberedRowList = ListOf<NumberedRow>;
+
+/// The tables that an ALTER TABLE rewrote.
+pub type RewrittenList = ListOf<Rewritten>;
+
+/// The runs of one call, in order.
+pub type RunList = ListOf<Run>;
