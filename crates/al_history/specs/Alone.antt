@@ -1,0 +1,35 @@
+-- When a table is used by one transaction alone (13.3.1).
+use Rattle.std.specs.Prelude.{◌≡◌, ℕ, Option, Some, None, option_and_then}
+use Rattle.al_history.specs.declared.entry.Entry.{Entry}
+use Rattle.al_history.specs.declared.entry.Entry.TheVariants.{Look, Add, Read, Alter}
+use Rattle.al_history.specs.declared.statement.Scripts.{Scripts}
+use Rattle.al_history.specs.Past.{Past}
+use Rattle.al_history.specs.Database.{Table, named}
+use Rattle.al_history.specs.Hand.{in_hand, session_of}
+use Rattle.al_history.specs.Cause.{used_name}
+use Rattle.al_history.specs.View.{latest}
+
+-- the transaction that has a table locked in ACCESS EXCLUSIVE mode: none, since no entry so far is a lock
+abbrev pub sole_user : Past → ℕ → Option ℕ
+sole_user past table = None
+
+-- the table that the transaction's statement in hand uses
+abbrev pub used_table : Scripts → Past → ℕ → Option Table
+used_table scripts past x = option_and_then (named (latest scripts past x)) (option_and_then used_name (in_hand scripts past (session_of past x)))
+
+abbrev pub IsNumbered : Option Table → ℕ → Type 0
+IsNumbered None number = ⊥
+IsNumbered (Some t) number = t.number ≡ number
+
+-- where someone has the table alone, it is that transaction
+abbrev pub IsUser : Option ℕ → ℕ → Type 0
+IsUser None x = Unit {0}
+IsUser (Some y) x = x ≡ y
+
+-- no Look, Read, row entry or ALTER TABLE uses a table that another has alone
+abbrev pub Alone : Scripts → Past → Entry → Type 0
+Alone scripts past (Look x) = (table : ℕ) → IsNumbered (used_table scripts past x) table → IsUser (sole_user past table) x
+Alone scripts past (Add x table row) = IsUser (sole_user past table) x
+Alone scripts past (Read x names rows) = (table : ℕ) → IsNumbered (used_table scripts past x) table → IsUser (sole_user past table) x
+Alone scripts past (Alter x table statement rewritten) = IsUser (sole_user past table) x
+Alone scripts past e = Unit {0}

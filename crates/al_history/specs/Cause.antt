@@ -1,0 +1,73 @@
+-- Why a statement is refused (Appendix A; CREATE TABLE, INSERT, SELECT, ALTER TABLE in Part VI).
+use Rattle.std.specs.Prelude.{ℕ, List, [], ◌∷◌, ◌++◌, Bool, false, cond, ◌||◌, length, nat_lt, Option, Some, None, is_some, option_and_then, Result, Ok, Err}
+use Rattle.al_history.specs.declared.entry.Cause.{Cause}
+use Rattle.al_history.specs.declared.entry.Cause.TheVariants as causes
+use Rattle.al_history.specs.declared.statement.Column.{Column}
+use Rattle.al_history.specs.declared.statement.Statement.{Statement}
+use Rattle.al_history.specs.declared.statement.Statement.TheVariants as statements
+use Rattle.al_history.specs.declared.statement.Scripts.{Scripts}
+use Rattle.al_history.specs.Past.{Past}
+use Rattle.al_history.specs.Database.{Table, Database, same_name, named}
+use Rattle.al_history.specs.Hand.{in_hand, xact_of, look_of, acts_of}
+use Rattle.al_history.specs.Change.{Alteration, alteration}
+use Rattle.al_history.specs.View.{latest}
+
+-- the table that the statement uses, where it uses one that has to be there
+abbrev pub used_name : Statement → Option (List ℕ)
+used_name (statements.CreateTable name columns) = None
+used_name (statements.Insert name values) = Some name
+used_name (statements.Select name) = Some name
+used_name (statements.AddColumn name column) = Some name
+
+abbrev pub if_missing : Database → Option (List ℕ) → Option Cause
+if_missing db None = None
+if_missing db (Some name) = cond (is_some (named db name)) None (Some (causes.NoTable name))
+
+-- Before its Look: the table that the statement uses isn't there.
+abbrev pub name_cause : Statement → Database → Option Cause
+name_cause statement db = if_missing db (used_name statement)
+
+-- whether the name is among these
+abbrev pub is_among : List (List ℕ) → List ℕ → Bool
+is_among [] name = false
+is_among (n ∷ names) name = same_name n name || is_among names name
+
+-- the first name that stands twice, in written order
+abbrev pub twice_column : List (List ℕ) → List (List ℕ) → Option Cause
+twice_column before [] = None
+twice_column before (name ∷ names) = cond (is_among before name) (Some (causes.TwiceColumn name)) (twice_column (before ++ name ∷ []) names)
+
+-- the new table's name is there already, which comes first, or a column's name stands twice
+abbrev pub create_cause : List ℕ → List (List ℕ) → Database → Option Cause
+create_cause name columns db = cond (is_some (named db name)) (Some (causes.TwiceTable name)) (twice_column [] columns)
+
+-- an INSERT has more values than its table has columns
+abbrev pub count_cause : ℕ → Option Table → Option Cause
+count_cause got None = None
+count_cause got (Some t) = cond (nat_lt (length t.columns) got) (Some (causes.Count (length t.columns) got)) None
+
+abbrev pub refusal : Result Alteration Cause → Option Cause
+refusal (Ok alteration) = None
+refusal (Err cause) = Some cause
+
+-- the shape refusal of an ALTER TABLE
+abbrev pub alter_cause : Column → Option Table → Option Cause
+alter_cause column None = None
+alter_cause column (Some t) = refusal (alteration column t)
+
+-- After its Look: a new table's name is judged on the latest database, all else on what the Look found. Once a statement
+-- of these has acted, nothing is left to refuse.
+abbrev pub look_cause : Statement → List ℕ → Database → Database → Option Cause
+look_cause statement (act ∷ acts) now looked = None
+look_cause (statements.CreateTable name columns) [] now looked = create_cause name columns now
+look_cause (statements.Insert name values) [] now looked = count_cause (length values) (named looked name)
+look_cause (statements.Select name) [] now looked = None
+look_cause (statements.AddColumn name column) [] now looked = alter_cause column (named looked name)
+
+abbrev pub cause_at : Scripts → Past → ℕ → Statement → List ℕ → Option Past → Option Cause
+cause_at scripts past x statement acts None = name_cause statement (latest scripts past x)
+cause_at scripts past x statement acts (Some look) = look_cause statement acts (latest scripts past x) (latest scripts look x)
+
+-- the cause for which the statement in hand has to be refused: the first that is true
+abbrev pub cause_of : Scripts → Past → ℕ → Option Cause
+cause_of scripts past s = option_and_then (λ x. option_and_then (λ statement. cause_at scripts past x statement (acts_of past s) (look_of past s)) (in_hand scripts past s)) (xact_of past s)

@@ -1,0 +1,47 @@
+-- Tables and their rows (5.1, 5.4).
+use Rattle.std.specs.Prelude.{ℕ, List, [], ◌∷◌, ◌==◌, Bool, false, cond, ◌||◌, Option, Some, None, nat_eq}
+use Rattle.std.specs.Cmp.Lexicographic.{pointwise}
+use Rattle.al_history.specs.declared.statement.Column.{Column}
+use Rattle.al_history.specs.Constraint.{VersionedRow, Constraint}
+
+-- a table: its number, its name, its columns in order, its constraints, and its rows by ascending number. A row has one
+-- value for each column, in their order.
+pub record Table : Type 0 where
+  pub number : ℕ
+  pub name : List ℕ
+  pub columns : List Column
+  pub constraints : List Constraint
+  pub rows : List VersionedRow
+
+-- the tables by ascending number
+abbrev pub Database : Type 0
+Database = List Table
+
+-- two names are one where their bytes are
+abbrev pub same_name : List ℕ → List ℕ → Bool
+same_name = pointwise nat_eq
+
+-- the table of a name
+abbrev pub named : Database → List ℕ → Option Table
+named [] name = None
+named (t ∷ db) name = cond (same_name t.name name) (Some t) (named db name)
+
+-- whether a table has this number
+abbrev pub has_table : Database → ℕ → Bool
+has_table [] number = false
+has_table (t ∷ db) number = t.number == number || has_table db number
+
+-- whether a row has this number
+abbrev pub has_row : List VersionedRow → ℕ → Bool
+has_row [] number = false
+has_row (r ∷ rows) number = r.number == number || has_row rows number
+
+-- whether a column has this name
+abbrev pub has_column : List Column → List ℕ → Bool
+has_column [] name = false
+has_column (c ∷ columns) name = same_name c.name name || has_column columns name
+
+-- the database with one of its tables changed
+abbrev pub with_table : ℕ → (Table → Table) → Database → Database
+with_table number f [] = []
+with_table number f (t ∷ db) = cond (t.number == number) (f t ∷ db) (t ∷ with_table number f db)

@@ -1,0 +1,87 @@
+-- What a session is doing: its step and its statement in hand, its transaction, its place, and what it has done (3.4).
+use Rattle.std.specs.Prelude.{ℕ, List, [], ◌∷◌, ◌++◌, ◌+◌, ◌==◌, Bool, true, false, cond, length, Option, Some, None, slice_get, option_and_then}
+use Rattle.al_history.specs.declared.entry.Entry.TheVariants.{Give, Start, Look, Make, Add, Read, Alter, Done, Refuse, Commit, Abort, End, Close}
+use Rattle.al_history.specs.declared.statement.Statement.{Statement}
+use Rattle.al_history.specs.declared.statement.ScriptBlock.{ScriptBlock}
+use Rattle.al_history.specs.declared.statement.Scripts.{Scripts}
+use Rattle.al_history.specs.Past.{Past}
+use Rattle.al_history.specs.Fate.{is_that}
+
+-- the block of the step in hand: the session's last Give, where no End of it stands after it
+abbrev pub hand : Past → ℕ → Option ℕ
+hand [] s = None
+hand (Give r block ∷ past) s = cond (r == s) (Some block) (hand past s)
+hand (End r ∷ past) s = cond (r == s) None (hand past s)
+hand (e ∷ past) s = hand past s
+
+-- how many statements of the step are done: the session's Dones since its last Give
+abbrev pub dones : Past → ℕ → ℕ
+dones [] s = 0
+dones (Give r block ∷ past) s = cond (r == s) 0 (dones past s)
+dones (Done r reply ∷ past) s = cond (r == s) (dones past s + 1) (dones past s)
+dones (e ∷ past) s = dones past s
+
+-- whether a statement of the step was refused
+abbrev pub refused : Past → ℕ → Bool
+refused [] s = false
+refused (Give r block ∷ past) s = cond (r == s) false (refused past s)
+refused (Refuse r cause ∷ past) s = cond (r == s) true (refused past s)
+refused (e ∷ past) s = refused past s
+
+-- the statement of a number in a block
+abbrev pub statement_of : Scripts → Option ℕ → ℕ → Option Statement
+statement_of scripts None number = None
+statement_of scripts (Some block) number = option_and_then (λ (b : ScriptBlock). slice_get b.script number) (slice_get scripts.blocks block)
+
+-- the statement in hand: the one whose number in the block is the count of those done
+abbrev pub in_hand : Scripts → Past → ℕ → Option Statement
+in_hand scripts past s = statement_of scripts (hand past s) (dones past s)
+
+-- the session's open transaction, which is named by the place of its Start
+abbrev pub xact_of : Past → ℕ → Option ℕ
+xact_of [] s = None
+xact_of (Start r level ∷ past) s = cond (r == s) (Some (length past)) (xact_of past s)
+xact_of (Commit x ∷ past) s = cond (is_that (xact_of past s) x) None (xact_of past s)
+xact_of (Abort x ∷ past) s = cond (is_that (xact_of past s) x) None (xact_of past s)
+xact_of (e ∷ past) s = xact_of past s
+
+-- the session of a transaction, 0 where there is no such transaction
+abbrev pub session_of : Past → ℕ → ℕ
+session_of [] x = 0
+session_of (Start r level ∷ past) x = cond (length past == x) r (session_of past x)
+session_of (e ∷ past) x = session_of past x
+
+-- the place of the statement in hand: what stood before its Look
+abbrev pub look_of : Past → ℕ → Option Past
+look_of [] s = None
+look_of (Give r block ∷ past) s = cond (r == s) None (look_of past s)
+look_of (Done r reply ∷ past) s = cond (r == s) None (look_of past s)
+look_of (Look x ∷ past) s = cond (is_that (xact_of past s) x) (Some past) (look_of past s)
+look_of (e ∷ past) s = look_of past s
+
+-- the places of what the statement in hand has done, oldest first
+abbrev pub acts_of : Past → ℕ → List ℕ
+acts_of [] s = []
+acts_of (Give r block ∷ past) s = cond (r == s) [] (acts_of past s)
+acts_of (Done r reply ∷ past) s = cond (r == s) [] (acts_of past s)
+acts_of (Make x table name shape ∷ past) s = cond (is_that (xact_of past s) x) (acts_of past s ++ length past ∷ []) (acts_of past s)
+acts_of (Add x table row ∷ past) s = cond (is_that (xact_of past s) x) (acts_of past s ++ length past ∷ []) (acts_of past s)
+acts_of (Read x names rows ∷ past) s = cond (is_that (xact_of past s) x) (acts_of past s ++ length past ∷ []) (acts_of past s)
+acts_of (Alter x table statement rewritten ∷ past) s = cond (is_that (xact_of past s) x) (acts_of past s ++ length past ∷ []) (acts_of past s)
+acts_of (e ∷ past) s = acts_of past s
+
+-- whether the session is closed
+abbrev pub closed : Past → ℕ → Bool
+closed [] s = false
+closed (Close r ∷ past) s = cond (r == s) true (closed past s)
+closed (e ∷ past) s = closed past s
+
+-- A transaction block is none, open, or failed by a kept Refuse. No statement so far opens one, so it is none: a step's
+-- transaction is implicit and ends with it.
+pub data BlockState : Type 0 where
+  NoBlock : BlockState
+  OpenBlock : BlockState
+  FailedBlock : ℕ → BlockState
+
+abbrev pub block_state : Past → ℕ → BlockState
+block_state past s = NoBlock

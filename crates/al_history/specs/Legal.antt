@@ -1,0 +1,39 @@
+-- Legal histories of a one-thread multiversion machine.
+use Rattle.std.specs.Prelude.{◌≡◌, ℕ, List, [], ◌∷◌, reverse, true, Contains, flat_map, cond, ◌==◌}
+use Rattle.al_history.specs.declared.entry.Entry.{Entry}
+use Rattle.al_history.specs.declared.statement.Scripts.{Scripts}
+use Rattle.al_history.specs.Past.{Past}
+use Rattle.al_history.specs.Constraint.{Constraint, Holds, breaking}
+use Rattle.al_history.specs.Database.{Table, Database}
+use Rattle.al_history.specs.Tail.{owed, Follows}
+use Rattle.al_history.specs.Rules.{Rule}
+use Rattle.al_history.specs.Alone.{Alone}
+use Rattle.al_history.specs.View.{committed}
+
+-- an entry may come: its rule is met, it is the one that is owed where one is, and no table is used that another has
+-- alone
+pub record MayCome (scripts : Scripts) (past : Past) (e : Entry) : Type 0 where
+  pub rule : Rule scripts past e
+  pub follows : Follows (owed scripts past) e
+  pub alone : Alone scripts past e
+
+-- each entry may come after those before it
+abbrev pub Legal : Scripts → Past → Type 0
+Legal scripts [] = Unit {0}
+Legal scripts (e ∷ past) = MayCome scripts past e × Legal scripts past
+
+abbrev pub IsLegal : Scripts → List Entry → Type 0
+IsLegal scripts journal = Legal scripts (reverse journal)
+
+-- the rows of a table that break a constraint
+abbrev pub bad : Constraint → Database → List ℕ
+bad c db = flat_map (λ (t : Table). cond (t.number == c.table) (breaking c.demand t.rows) []) db
+
+-- each valid constraint of each table holds
+abbrev pub AllHold : Database → Type 0
+AllHold db = (t : Table) → Contains db t → (c : Constraint) → Contains t.constraints c → c.valid ≡ true → Holds c.demand t.rows
+
+-- every committed constraint that is valid holds of all committed rows, at every moment
+abbrev pub HoldAlways : Scripts → Past → Type 0
+HoldAlways scripts [] = AllHold (committed scripts [])
+HoldAlways scripts (e ∷ past) = AllHold (committed scripts (e ∷ past)) × HoldAlways scripts past

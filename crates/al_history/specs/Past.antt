@@ -1,0 +1,18 @@
+-- A journal read from its end.
+use Rattle.std.specs.Prelude.{ℕ, List, [], ◌∷◌, ◌==◌, cond, reverse, length, Option, Some, None}
+use Rattle.al_history.specs.declared.entry.Entry.{Entry}
+use Rattle.al_history.specs.Kept.{Kept}
+
+-- the entries so far, newest first: a prefix of the journal is a tail of the past, and a place is the length of what
+-- stands before it
+abbrev pub Past : Type 0
+Past = List Entry
+
+-- the past of a journal
+abbrev pub past_of : Kept → Past
+past_of journal = reverse journal.entries
+
+-- the entry at a place
+abbrev pub entry_at : Past → ℕ → Option Entry
+entry_at [] place = None
+entry_at (e ∷ past) place = cond (length past == place) (Some e) (entry_at past place)

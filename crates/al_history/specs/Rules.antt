@@ -1,0 +1,161 @@
+-- When an entry may stand after a past. Each rule is a record of what it asks.
+use Rattle.std.specs.Prelude.{◌≡◌, ℕ, List, [], ◌∷◌, true, false, length, Option, Some, None, IsSome, IsOk, slice_get, option_map, ◌⊎◌}
+use Rattle.al_values.specs.declared.scalar.Value.{Value}
+use Rattle.al_history.specs.declared.entry.Level.{Level}
+use Rattle.al_history.specs.declared.entry.Level.TheVariants as levels
+use Rattle.al_history.specs.declared.entry.Tag.TheVariants as tags
+use Rattle.al_history.specs.declared.entry.Reply.{Reply}
+use Rattle.al_history.specs.declared.entry.Reply.TheVariants as replies
+use Rattle.al_history.specs.declared.entry.Cause.{Cause}
+use Rattle.al_history.specs.declared.entry.Rewritten.{Rewritten}
+use Rattle.al_history.specs.declared.entry.Entry.{Entry}
+use Rattle.al_history.specs.declared.entry.Entry.TheVariants.{Give, Start, Look, Make, Add, Read, Alter, Done, Refuse, Commit, Abort, End, Close}
+use Rattle.al_history.specs.declared.statement.Column.{Column}
+use Rattle.al_history.specs.declared.statement.ScriptBlock.{ScriptBlock}
+use Rattle.al_history.specs.declared.statement.Statement.{Statement}
+use Rattle.al_history.specs.declared.statement.Statement.TheVariants as statements
+use Rattle.al_history.specs.declared.statement.Scripts.{Scripts}
+use Rattle.al_history.specs.Past.{Past}
+use Rattle.al_history.specs.Database.{Table, Database, named}
+use Rattle.al_history.specs.Hand.{hand, dones, refused, in_hand, xact_of, session_of, look_of, acts_of, closed, NoBlock, block_state}
+use Rattle.al_history.specs.Query.{column_names, answer}
+use Rattle.al_history.specs.Change.{shape_of, filled, alteration}
+use Rattle.al_history.specs.View.{latest}
+use Rattle.al_history.specs.Cause.{cause_of}
+
+-- a block is given to its session, which isn't closed and has no step in hand
+pub record GiveRule (scripts : Scripts) (past : Past) (s block : ℕ) : Type 0 where
+  pub of_session : option_map (λ (b : ScriptBlock). b.session) (slice_get scripts.blocks block) ≡ Some s
+  pub not_closed : closed past s ≡ false
+  pub idle : hand past s ≡ None
+
+-- a transaction begins for a statement in hand, where none is open, READ COMMITTED
+pub record StartRule (scripts : Scripts) (past : Past) (s : ℕ) (level : Level) : Type 0 where
+  pub statement : IsSome (in_hand scripts past s)
+  pub none_open : xact_of past s ≡ None
+  pub read_committed : level ≡ levels.ReadCommitted
+
+-- the statement in hand of an open transaction gets its place, once, where the table that it uses is there
+pub record LookRule (scripts : Scripts) (past : Past) (x : ℕ) : Type 0 where
+  pub open_xact : xact_of past (session_of past x) ≡ Some x
+  pub statement : IsSome (in_hand scripts past (session_of past x))
+  pub first : look_of past (session_of past x) ≡ None
+  pub not_refused : cause_of scripts past (session_of past x) ≡ None
+
+-- what the statement does is of an open transaction that has looked, comes first, and no cause of refusal is true
+pub record ActRule (scripts : Scripts) (past : Past) (x : ℕ) : Type 0 where
+  pub open_xact : xact_of past (session_of past x) ≡ Some x
+  pub looked : IsSome (look_of past (session_of past x))
+  pub first : acts_of past (session_of past x) ≡ []
+  pub not_refused : cause_of scripts past (session_of past x) ≡ None
+
+-- the database at the statement's Look, for its transaction
+abbrev pub looked_at : Scripts → Option Past → ℕ → Database
+looked_at scripts None x = []
+looked_at scripts (Some look) x = latest scripts look x
+
+-- CREATE TABLE makes a table of its name and columns
+abbrev pub Creates : Option Statement → List ℕ → List Column → Type 0
+Creates (Some (statements.CreateTable table columns)) name shape = (name ≡ table) × (shape ≡ shape_of columns)
+Creates statement name shape = ⊥
+
+pub record MakeRule (scripts : Scripts) (past : Past) (x table : ℕ) (name : List ℕ) (shape : List Column) : Type 0 where
+  pub act : ActRule scripts past x
+  pub creates : Creates (in_hand scripts past (session_of past x)) name shape
+  pub number : table ≡ length past
+
+-- INSERT adds its row, with the defaults of the columns that it has no value for
+abbrev pub IsFilled : Option Table → List Value → ℕ → List Value → Type 0
+IsFilled None written table row = ⊥
+IsFilled (Some t) written table row = (table ≡ t.number) × (row ≡ filled t.columns written)
+
+abbrev pub Inserts : Option Statement → Database → ℕ → List Value → Type 0
+Inserts (Some (statements.Insert name written)) db table row = IsFilled (named db name) written table row
+Inserts statement db table row = ⊥
+
+pub record AddRule (scripts : Scripts) (past : Past) (x table : ℕ) (row : List Value) : Type 0 where
+  pub act : ActRule scripts past x
+  pub inserts : Inserts (in_hand scripts past (session_of past x)) (latest scripts past x) table row
+
+-- SELECT reads the names of the columns and all rows, as at its Look
+abbrev pub IsAnswer : Option Table → List (List ℕ) → List (List Value) → Type 0
+IsAnswer None names rows = ⊥
+IsAnswer (Some t) names rows = (names ≡ column_names t) × (rows ≡ answer t)
+
+abbrev pub Selects : Option Statement → Database → List (List ℕ) → List (List Value) → Type 0
+Selects (Some (statements.Select name)) db names rows = IsAnswer (named db name) names rows
+Selects statement db names rows = ⊥
+
+pub record ReadRule (scripts : Scripts) (past : Past) (x : ℕ) (names : List (List ℕ)) (rows : List (List Value)) : Type 0 where
+  pub act : ActRule scripts past x
+  pub selects : Selects (in_hand scripts past (session_of past x)) (looked_at scripts (look_of past (session_of past x)) x) names rows
+
+-- ALTER TABLE alters the table of its name where its shape isn't refused, and rewrites none
+abbrev pub IsAltered : Option Table → Column → ℕ → Type 0
+IsAltered None column table = ⊥
+IsAltered (Some t) column table = (table ≡ t.number) × IsOk (alteration column t)
+
+abbrev pub Alters : Option Statement → Database → ℕ → Type 0
+Alters (Some (statements.AddColumn name column)) db table = IsAltered (named db name) column table
+Alters statement db table = ⊥
+
+pub record AlterRule (scripts : Scripts) (past : Past) (x table statement : ℕ) (rewritten : List Rewritten) : Type 0 where
+  pub act : ActRule scripts past x
+  pub alters : Alters (in_hand scripts past (session_of past x)) (latest scripts past x) table
+  pub number : statement ≡ dones past (session_of past x)
+  pub none_rewritten : rewritten ≡ []
+
+-- a statement is done once it has acted, with its tag and the count of its rows, or with the place of its Read
+abbrev pub Answers : Option Statement → List ℕ → Reply → Type 0
+Answers (Some (statements.CreateTable name columns)) (act ∷ []) reply = reply ≡ replies.Tag tags.CreateTable 0
+Answers (Some (statements.Insert name written)) (act ∷ []) reply = reply ≡ replies.Tag tags.Insert 1
+Answers (Some (statements.Select name)) (act ∷ []) reply = reply ≡ replies.Rows act
+Answers (Some (statements.AddColumn name column)) (act ∷ []) reply = reply ≡ replies.Tag tags.AlterTable 0
+Answers statement acts reply = ⊥
+
+pub record DoneRule (scripts : Scripts) (past : Past) (s : ℕ) (reply : Reply) : Type 0 where
+  pub answers : Answers (in_hand scripts past s) (acts_of past s) reply
+
+-- a statement is refused for the first cause that is true
+pub record RefuseRule (scripts : Scripts) (past : Past) (s : ℕ) (cause : Cause) : Type 0 where
+  pub first_true : cause_of scripts past s ≡ Some cause
+
+-- an implicit transaction commits with its step, once each statement is done
+pub record CommitRule (scripts : Scripts) (past : Past) (x : ℕ) : Type 0 where
+  pub open_xact : xact_of past (session_of past x) ≡ Some x
+  pub in_step : IsSome (hand past (session_of past x))
+  pub none_left : in_hand scripts past (session_of past x) ≡ None
+  pub none_refused : refused past (session_of past x) ≡ false
+  pub implicit : block_state past (session_of past x) ≡ NoBlock
+
+-- a transaction aborts after a refusal, or before its idle session is closed
+pub record AbortRule (scripts : Scripts) (past : Past) (x : ℕ) : Type 0 where
+  pub open_xact : xact_of past (session_of past x) ≡ Some x
+  pub refused_or_idle : (refused past (session_of past x) ≡ true) ⊎ (hand past (session_of past x) ≡ None)
+
+-- a step ends when no statement is left or one was refused, and no implicit transaction is open
+pub record EndRule (scripts : Scripts) (past : Past) (s : ℕ) : Type 0 where
+  pub in_step : IsSome (hand past s)
+  pub over : (in_hand scripts past s ≡ None) ⊎ (refused past s ≡ true)
+  pub none_open : xact_of past s ≡ None
+
+-- an idle session without a transaction is closed, once
+pub record CloseRule (scripts : Scripts) (past : Past) (s : ℕ) : Type 0 where
+  pub idle : hand past s ≡ None
+  pub not_closed : closed past s ≡ false
+  pub none_open : xact_of past s ≡ None
+
+abbrev pub Rule : Scripts → Past → Entry → Type 0
+Rule scripts past (Give s block) = GiveRule scripts past s block
+Rule scripts past (Start s level) = StartRule scripts past s level
+Rule scripts past (Look x) = LookRule scripts past x
+Rule scripts past (Make x table name shape) = MakeRule scripts past x table name shape
+Rule scripts past (Add x table row) = AddRule scripts past x table row
+Rule scripts past (Read x names rows) = ReadRule scripts past x names rows
+Rule scripts past (Alter x table statement rewritten) = AlterRule scripts past x table statement rewritten
+Rule scripts past (Done s reply) = DoneRule scripts past s reply
+Rule scripts past (Refuse s cause) = RefuseRule scripts past s cause
+Rule scripts past (Commit x) = CommitRule scripts past x
+Rule scripts past (Abort x) = AbortRule scripts past x
+Rule scripts past (End s) = EndRule scripts past s
+Rule scripts past (Close s) = CloseRule scripts past s
