@@ -5,7 +5,7 @@ use Rattle.al_history.specs.declared.entry.Entry.TheVariants.{Look, Add, Read, A
 use Rattle.al_history.specs.declared.statement.Scripts.{Scripts}
 use Rattle.al_history.specs.Past.{Past}
 use Rattle.al_history.specs.Database.{Table, named}
-use Rattle.al_history.specs.Hand.{in_hand, session_of}
+use Rattle.al_history.specs.Hand.{in_hand, session_of, look_of}
 use Rattle.al_history.specs.Cause.{used_name}
 use Rattle.al_history.specs.View.{latest}
 
@@ -13,9 +13,9 @@ use Rattle.al_history.specs.View.{latest}
 abbrev pub sole_user : Past → ℕ → Option ℕ
 sole_user past table = None
 
--- the table that the transaction's statement in hand uses
-abbrev pub used_table : Scripts → Past → ℕ → Option Table
-used_table scripts past x = option_and_then (named (latest scripts past x)) (option_and_then used_name (in_hand scripts past (session_of past x)))
+-- the table that the transaction's statement in hand uses, in the database as its Look found it
+abbrev pub used_table : Scripts → Past → ℕ → Past → Option Table
+used_table scripts past x look = option_and_then (named (latest scripts look x)) (option_and_then used_name (in_hand scripts past (session_of past x)))
 
 abbrev pub IsNumbered : Option Table → ℕ → Type 0
 IsNumbered None number = ⊥
@@ -26,10 +26,15 @@ abbrev pub IsUser : Option ℕ → ℕ → Type 0
 IsUser None x = Unit {0}
 IsUser (Some y) x = x ≡ y
 
+-- a statement with this Look uses no table that another has alone
+abbrev pub UsesOwn : Scripts → Past → ℕ → Option Past → Type 0
+UsesOwn scripts past x None = Unit {0}
+UsesOwn scripts past x (Some look) = (table : ℕ) → IsNumbered (used_table scripts past x look) table → IsUser (sole_user past table) x
+
 -- no Look, Read, row entry or ALTER TABLE uses a table that another has alone
 abbrev pub Alone : Scripts → Past → Entry → Type 0
-Alone scripts past (Look x) = (table : ℕ) → IsNumbered (used_table scripts past x) table → IsUser (sole_user past table) x
+Alone scripts past (Look x) = UsesOwn scripts past x (Some past)
 Alone scripts past (Add x table row) = IsUser (sole_user past table) x
-Alone scripts past (Read x names rows) = (table : ℕ) → IsNumbered (used_table scripts past x) table → IsUser (sole_user past table) x
-Alone scripts past (Alter x table statement rewritten) = IsUser (sole_user past table) x
+Alone scripts past (Read x names rows) = UsesOwn scripts past x (look_of past (session_of past x))
+Alone scripts past (Alter x table statement rewritten) = UsesOwn scripts past x (look_of past (session_of past x))
 Alone scripts past e = Unit {0}

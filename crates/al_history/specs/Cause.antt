@@ -32,7 +32,7 @@ abbrev pub is_among : List (List ℕ) → List ℕ → Bool
 is_among [] name = false
 is_among (n ∷ names) name = same_name n name || is_among names name
 
--- the first name that stands twice, in written order
+-- the first name that stood before, in written order
 abbrev pub twice_column : List (List ℕ) → List (List ℕ) → Option Cause
 twice_column before [] = None
 twice_column before (name ∷ names) = cond (is_among before name) (Some (causes.TwiceColumn name)) (twice_column (before ++ name ∷ []) names)

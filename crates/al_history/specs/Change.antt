@@ -1,5 +1,5 @@
 -- What CREATE TABLE, INSERT and ALTER TABLE do to a database (CREATE TABLE, INSERT, ALTER TABLE in Part VI).
-use Rattle.std.specs.Prelude.{ℕ, List, [], ◌∷◌, ◌++◌, ◌==◌, not, cond, ◌||◌, ◌&&◌, map, length, drop, Option, Some, Result, Ok, Err, is_some}
+use Rattle.std.specs.Prelude.{ℕ, List, [], ◌∷◌, ◌++◌, ◌==◌, not, cond, ◌||◌, ◌&&◌, map, length, drop, Option, Some, Result, Ok, Err, is_some, Contains}
 use Rattle.al_values.specs.declared.scalar.Value.{Value}
 use Rattle.al_values.specs.declared.scalar.Value.TheVariants as values
 use Rattle.al_history.specs.declared.entry.Cause.{Cause}
@@ -7,8 +7,8 @@ use Rattle.al_history.specs.declared.entry.Cause.TheVariants as causes
 use Rattle.al_history.specs.declared.statement.Column.{Column}
 use Rattle.al_history.specs.declared.statement.Statement.{Statement}
 use Rattle.al_history.specs.declared.statement.Statement.TheVariants as statements
-use Rattle.al_history.specs.Constraint.{VersionedRow, Constraint}
-use Rattle.al_history.specs.Database.{Table, Database, named, has_table, has_row, has_column, with_table}
+use Rattle.al_history.specs.Constraint.{Constraint}
+use Rattle.al_history.specs.Database.{VersionedRow, Holds, Table, Database, named, has_table, has_row, has_column, with_table}
 
 -- CREATE TABLE: the columns of these names, without defaults
 abbrev pub shape_of : List (List ℕ) → List Column
@@ -51,6 +51,7 @@ abbrev pub altered : Option Statement → ℕ → Database → Database
 altered (Some (statements.AddColumn name column)) number db = with_table number (λ t. after_alteration (alteration column t) t) db
 altered other number db = db
 
--- the tables that an ALTER TABLE rewrites: adding a column rewrites none
-abbrev pub rewrites : Statement → Database → List ℕ
-rewrites statement db = []
+-- every test holds of the table as it will be
+abbrev pub Passes : Result Alteration Cause → Table → Database → Type 0
+Passes (Err cause) t db = ⊥
+Passes (Ok alteration) t db = (c : Constraint) → Contains alteration.tests c → Holds c.demand (after_alteration (Ok alteration) t) db

@@ -2,7 +2,14 @@
 use Rattle.std.specs.Prelude.{ℕ, List, [], ◌∷◌, ◌==◌, Bool, false, cond, ◌||◌, Option, Some, None, nat_eq}
 use Rattle.std.specs.Cmp.Lexicographic.{pointwise}
 use Rattle.al_history.specs.declared.statement.Column.{Column}
-use Rattle.al_history.specs.Constraint.{VersionedRow, Constraint}
+use Rattle.al_values.specs.declared.scalar.Value.{Value}
+use Rattle.al_history.specs.Constraint.{Constraint, Demand}
+
+-- a row: its number, the number of its version, and its values in the order of its table's columns
+pub record VersionedRow : Type 0 where
+  pub number : ℕ
+  pub version : ℕ
+  pub values : List Value
 
 -- a table: its number, its name, its columns in order, its constraints, and its rows by ascending number. A row has one
 -- value for each column, in their order.
@@ -16,6 +23,14 @@ pub record Table : Type 0 where
 -- the tables by ascending number
 abbrev pub Database : Type 0
 Database = List Table
+
+-- the rows of the table meet the demand, in this database
+abbrev pub Holds : Demand → Table → Database → Type 0
+Holds demand t db = absurd demand
+
+-- the numbers of the table's rows that are against it
+abbrev pub breaking : Demand → Table → Database → List ℕ
+breaking demand t db = absurd demand
 
 -- two names are one where their bytes are
 abbrev pub same_name : List ℕ → List ℕ → Bool

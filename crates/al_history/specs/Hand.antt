@@ -85,3 +85,11 @@ pub data BlockState : Type 0 where
 
 abbrev pub block_state : Past → ℕ → BlockState
 block_state past s = NoBlock
+
+abbrev pub if_no_block : BlockState → Option ℕ → Option ℕ
+if_no_block NoBlock x = x
+if_no_block state x = None
+
+-- the session's implicit transaction: the open one, where no block is
+abbrev pub implicit_of : Past → ℕ → Option ℕ
+implicit_of past s = if_no_block (block_state past s) (xact_of past s)

@@ -3,8 +3,8 @@ use Rattle.std.specs.Prelude.{◌≡◌, ℕ, List, [], ◌∷◌, reverse, true
 use Rattle.al_history.specs.declared.entry.Entry.{Entry}
 use Rattle.al_history.specs.declared.statement.Scripts.{Scripts}
 use Rattle.al_history.specs.Past.{Past}
-use Rattle.al_history.specs.Constraint.{Constraint, Holds, breaking}
-use Rattle.al_history.specs.Database.{Table, Database}
+use Rattle.al_history.specs.Constraint.{Constraint}
+use Rattle.al_history.specs.Database.{Table, Database, Holds, breaking}
 use Rattle.al_history.specs.Tail.{owed, Follows}
 use Rattle.al_history.specs.Rules.{Rule}
 use Rattle.al_history.specs.Alone.{Alone}
@@ -27,11 +27,11 @@ IsLegal scripts journal = Legal scripts (reverse journal)
 
 -- the rows of a table that break a constraint
 abbrev pub bad : Constraint → Database → List ℕ
-bad c db = flat_map (λ (t : Table). cond (t.number == c.table) (breaking c.demand t.rows) []) db
+bad c db = flat_map (λ (t : Table). cond (t.number == c.table) (breaking c.demand t db) []) db
 
 -- each valid constraint of each table holds
 abbrev pub AllHold : Database → Type 0
-AllHold db = (t : Table) → Contains db t → (c : Constraint) → Contains t.constraints c → c.valid ≡ true → Holds c.demand t.rows
+AllHold db = (t : Table) → Contains db t → (c : Constraint) → Contains t.constraints c → c.valid ≡ true → Holds c.demand t db
 
 -- every committed constraint that is valid holds of all committed rows, at every moment
 abbrev pub HoldAlways : Scripts → Past → Type 0

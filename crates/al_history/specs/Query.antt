@@ -2,8 +2,7 @@
 use Rattle.std.specs.Prelude.{ℕ, List, map}
 use Rattle.al_values.specs.declared.scalar.Value.{Value}
 use Rattle.al_history.specs.declared.statement.Column.{Column}
-use Rattle.al_history.specs.Constraint.{VersionedRow}
-use Rattle.al_history.specs.Database.{Table}
+use Rattle.al_history.specs.Database.{Table, VersionedRow}
 
 -- the names of the table's columns, in order
 abbrev pub column_names : Table → List (List ℕ)

@@ -1,5 +1,5 @@
 -- When an entry may stand after a past. Each rule is a record of what it asks.
-use Rattle.std.specs.Prelude.{◌≡◌, ℕ, List, [], ◌∷◌, true, false, length, Option, Some, None, IsSome, IsOk, slice_get, option_map, ◌⊎◌}
+use Rattle.std.specs.Prelude.{◌≡◌, ℕ, List, [], ◌∷◌, true, false, length, Option, Some, None, IsSome, IsOk, slice_get, option_map, ◌⊎◌, ◌<◌}
 use Rattle.al_values.specs.declared.scalar.Value.{Value}
 use Rattle.al_history.specs.declared.entry.Level.{Level}
 use Rattle.al_history.specs.declared.entry.Level.TheVariants as levels
@@ -17,9 +17,9 @@ use Rattle.al_history.specs.declared.statement.Statement.TheVariants as statemen
 use Rattle.al_history.specs.declared.statement.Scripts.{Scripts}
 use Rattle.al_history.specs.Past.{Past}
 use Rattle.al_history.specs.Database.{Table, Database, named}
-use Rattle.al_history.specs.Hand.{hand, dones, refused, in_hand, xact_of, session_of, look_of, acts_of, closed, NoBlock, block_state}
+use Rattle.al_history.specs.Hand.{hand, dones, refused, in_hand, xact_of, implicit_of, session_of, look_of, acts_of, closed}
 use Rattle.al_history.specs.Query.{column_names, answer}
-use Rattle.al_history.specs.Change.{shape_of, filled, alteration}
+use Rattle.al_history.specs.Change.{shape_of, filled, alteration, Passes}
 use Rattle.al_history.specs.View.{latest}
 use Rattle.al_history.specs.Cause.{cause_of}
 
@@ -90,13 +90,14 @@ pub record ReadRule (scripts : Scripts) (past : Past) (x : ℕ) (names : List (L
   pub act : ActRule scripts past x
   pub selects : Selects (in_hand scripts past (session_of past x)) (looked_at scripts (look_of past (session_of past x)) x) names rows
 
--- ALTER TABLE alters the table of its name where its shape isn't refused, and rewrites none
-abbrev pub IsAltered : Option Table → Column → ℕ → Type 0
-IsAltered None column table = ⊥
-IsAltered (Some t) column table = (table ≡ t.number) × IsOk (alteration column t)
+-- ALTER TABLE alters the table of its name, where its shape isn't refused and its tests hold; adding a column rewrites no
+-- table
+abbrev pub IsAltered : Option Table → Column → Database → ℕ → Type 0
+IsAltered None column db table = ⊥
+IsAltered (Some t) column db table = (table ≡ t.number) × Passes (alteration column t) t db
 
 abbrev pub Alters : Option Statement → Database → ℕ → Type 0
-Alters (Some (statements.AddColumn name column)) db table = IsAltered (named db name) column table
+Alters (Some (statements.AddColumn name column)) db table = IsAltered (named db name) column db table
 Alters statement db table = ⊥
 
 pub record AlterRule (scripts : Scripts) (past : Past) (x table statement : ℕ) (rewritten : List Rewritten) : Type 0 where
@@ -122,25 +123,25 @@ pub record RefuseRule (scripts : Scripts) (past : Past) (s : ℕ) (cause : Cause
 
 -- an implicit transaction commits with its step, once each statement is done
 pub record CommitRule (scripts : Scripts) (past : Past) (x : ℕ) : Type 0 where
-  pub open_xact : xact_of past (session_of past x) ≡ Some x
+  pub open_xact : implicit_of past (session_of past x) ≡ Some x
   pub in_step : IsSome (hand past (session_of past x))
   pub none_left : in_hand scripts past (session_of past x) ≡ None
   pub none_refused : refused past (session_of past x) ≡ false
-  pub implicit : block_state past (session_of past x) ≡ NoBlock
 
 -- a transaction aborts after a refusal, or before its idle session is closed
 pub record AbortRule (scripts : Scripts) (past : Past) (x : ℕ) : Type 0 where
   pub open_xact : xact_of past (session_of past x) ≡ Some x
   pub refused_or_idle : (refused past (session_of past x) ≡ true) ⊎ (hand past (session_of past x) ≡ None)
 
--- a step ends when no statement is left or one was refused, and no implicit transaction is open
+-- a step ends when no statement is left or one was refused, and its implicit transaction has ended
 pub record EndRule (scripts : Scripts) (past : Past) (s : ℕ) : Type 0 where
   pub in_step : IsSome (hand past s)
   pub over : (in_hand scripts past s ≡ None) ⊎ (refused past s ≡ true)
-  pub none_open : xact_of past s ≡ None
+  pub none_implicit : implicit_of past s ≡ None
 
 -- an idle session without a transaction is closed, once
 pub record CloseRule (scripts : Scripts) (past : Past) (s : ℕ) : Type 0 where
+  pub known : s < scripts.sessions
   pub idle : hand past s ≡ None
   pub not_closed : closed past s ≡ false
   pub none_open : xact_of past s ≡ None

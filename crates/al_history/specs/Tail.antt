@@ -5,7 +5,7 @@ use Rattle.al_history.specs.declared.entry.Entry.TheVariants.{Done, Refuse, Comm
 use Rattle.al_history.specs.declared.statement.Statement.{Statement}
 use Rattle.al_history.specs.declared.statement.Scripts.{Scripts}
 use Rattle.al_history.specs.Past.{Past}
-use Rattle.al_history.specs.Hand.{hand, in_hand, xact_of, session_of}
+use Rattle.al_history.specs.Hand.{hand, in_hand, xact_of, implicit_of, session_of}
 
 abbrev pub abort_or_end : Option ℕ → ℕ → Entry
 abort_or_end None s = End s
@@ -27,7 +27,7 @@ if_last (Some statement) next = None
 -- Done the Commit of an implicit one; after these the End of the step, or the Close of an idle session
 abbrev pub owed : Scripts → Past → Option Entry
 owed scripts (Refuse s cause ∷ past) = Some (abort_or_end (xact_of past s) s)
-owed scripts (Done s reply ∷ past) = if_last (in_hand scripts (Done s reply ∷ past) s) (commit_or_end (xact_of past s) s)
+owed scripts (Done s reply ∷ past) = if_last (in_hand scripts (Done s reply ∷ past) s) (commit_or_end (implicit_of past s) s)
 owed scripts (Commit x ∷ past) = Some (End (session_of past x))
 owed scripts (Abort x ∷ past) = Some (end_or_close (hand past (session_of past x)) (session_of past x))
 owed scripts past = None

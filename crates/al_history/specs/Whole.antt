@@ -1,5 +1,5 @@
 -- The journal of a whole run: what the driver gives and closes, and who goes on in between (src/test/isolation/README).
-use Rattle.std.specs.Prelude.{◌≡◌, ℕ, zero, suc, List, [], ◌∷◌, ◌++◌, ◌+◌, ◌-◌, ◌<◌, ◌≤◌, ◌==◌, Bool, true, false, cond, map, length, Option, Some, None, IsSome, slice_get, option_map, unwrap_or, option_and_then}
+use Rattle.std.specs.Prelude.{◌≡◌, ℕ, zero, suc, List, [], ◌∷◌, ◌++◌, ◌+◌, ◌-◌, ◌<◌, ◌≤◌, ◌==◌, Bool, true, false, cond, map, length, Option, Some, None, IsSome, slice_get, option_map, unwrap_or, option_and_then, is_some}
 use Rattle.al_history.specs.declared.entry.Entry.{Entry}
 use Rattle.al_history.specs.declared.entry.Entry.TheVariants.{Give, Start, Look, Make, Add, Read, Alter, Done, Refuse, Commit, Abort, End, Close}
 use Rattle.al_history.specs.declared.spec.Block.{Block}
@@ -70,17 +70,26 @@ abbrev pub setup_by : Option ℕ → Setup
 setup_by None = setups.Done
 setup_by (Some block) = setups.Failed block
 
--- no session has a step in hand
-abbrev pub IsIdle : Past → Type 0
-IsIdle past = (s : ℕ) → hand past s ≡ None
+-- a session can go on where it has a step in hand
+abbrev pub can_go_on : Past → ℕ → Bool
+can_go_on past s = is_some (hand past s)
 
--- the session is the least that can go on: none before it has a step in hand
+-- no session can go on
+abbrev pub IsIdle : Past → Type 0
+IsIdle past = (s : ℕ) → can_go_on past s ≡ false
+
+-- the session is the least that can go on
 abbrev pub IsLeast : Past → ℕ → Type 0
-IsLeast past s = IsSome (hand past s) × ((r : ℕ) → r < s → hand past r ≡ None)
+IsLeast past s = (can_go_on past s ≡ true) × ((r : ℕ) → r < s → can_go_on past r ≡ false)
 
 abbrev pub IsTurn : Option Entry → Past → ℕ → Type 0
 IsTurn (Some next) past s = Unit {0}
 IsTurn None past s = IsLeast past s
+
+-- the Abort of a session with no step in hand stands before its Close
+abbrev pub if_in_step : Option ℕ → Type 0 → Type 0
+if_in_step None turn = Unit {0}
+if_in_step (Some block) turn = turn
 
 -- a block is given where no session can go on; what is no part of a statement's tail is of the least that can
 abbrev pub InTurn : Scripts → Past → Entry → Type 0
@@ -96,7 +105,7 @@ InTurn scripts past (Add x table row) = IsTurn (owed scripts past) past (session
 InTurn scripts past (Read x names rows) = IsTurn (owed scripts past) past (session_of past x)
 InTurn scripts past (Alter x table statement rewritten) = IsTurn (owed scripts past) past (session_of past x)
 InTurn scripts past (Commit x) = IsTurn (owed scripts past) past (session_of past x)
-InTurn scripts past (Abort x) = IsTurn (owed scripts past) past (session_of past x)
+InTurn scripts past (Abort x) = if_in_step (hand past (session_of past x)) (IsTurn (owed scripts past) past (session_of past x))
 
 abbrev pub Driven : Scripts → Past → Type 0
 Driven scripts [] = Unit {0}
@@ -109,15 +118,21 @@ pub record IsWhole (spec : Spec) (scripts : Scripts) (steps : List ℕ) (past : 
   pub in_turn : Driven scripts past
   pub all_closed : (s : ℕ) → s ≤ length spec.sessions → closed past s ≡ true
 
--- the steps of a permutation by its number, from 1
-abbrev pub steps_of : Spec → ℕ → List ℕ
-steps_of spec number = unwrap_or (slice_get spec.permutations (number - 1)) []
-
--- the run of a permutation: its journal is legal and whole, each valid constraint holds throughout, and the outcome of
--- its setup part is what its journal says
-pub record IsRun (spec : Spec) (scripts : Scripts) (number : ℕ) (run : Run) : Type 0 where
+-- the run of the permutation of this number: its journal is legal and whole, each valid constraint holds throughout, and
+-- the outcome of its setup part is what its journal says
+pub record IsRun (spec : Spec) (scripts : Scripts) (number : ℕ) (steps : List ℕ) (run : Run) : Type 0 where
   pub permutation : run.permutation ≡ number
   pub legal : IsLegal scripts run.history.entries
-  pub whole : IsWhole spec scripts (steps_of spec number) (past_of run.history)
+  pub whole : IsWhole spec scripts steps (past_of run.history)
   pub holding : HoldAlways scripts (past_of run.history)
   pub setup : run.setup ≡ setup_by (failed_setup spec (past_of run.history))
+
+-- one run for each permutation, in order; they count from this number
+abbrev pub AreRunsFrom : Spec → Scripts → ℕ → List (List ℕ) → List Run → Type 0
+AreRunsFrom spec scripts number [] [] = Unit {0}
+AreRunsFrom spec scripts number (steps ∷ permutations) (run ∷ runs) = IsRun spec scripts number steps run × AreRunsFrom spec scripts (number + 1) permutations runs
+AreRunsFrom spec scripts number permutations runs = ⊥
+
+-- the runs of a spec, whose permutations count from 1
+abbrev pub AreRuns : Spec → Scripts → List Run → Type 0
+AreRuns spec scripts runs = AreRunsFrom spec scripts 1 spec.permutations runs

@@ -1,3 +1,4 @@
+ghost use Rattle.al_history.specs.Past.{past_of};
 ghost use Rattle.std.specs.Prelude.{◌≡◌, [], ◌∷◌, ◌++◌, ◌+◌, ◌<◌, ◌≤◌, ◌^◌, length, IfOk, OnOk, OnErr, reverse};
 
 use crate::Entry;
@@ -69,9 +70,11 @@ impl History {
     }
 
     /// Puts an entry at the end, in a reserved place. It takes no memory.
+    #[tactic(auto, using(crate::proofs::Pasts::past_grows))]
     pub fn note(&mut self, entry: Entry)
         requires { 0 < self.old.room }
         ensures entries { self.new.entries ≡ self.old.entries ++ entry ∷ [] }
+        ensures past { past_of self.new ≡ entry ∷ past_of self.old }
         ensures room { self.new.room + 1 ≡ self.old.room }
     {
         self.room -= 1;

@@ -19,7 +19,8 @@ pub struct Block {
     pub session: u32,
     /// The step's name; empty where the block is no step.
     pub name: Name,
-    /// What stands between its braces, without the blanks at both ends.
+    /// What stands between its braces, without the spaces, tabs, carriage returns and form feeds at both ends. Line feeds
+    /// stay.
     pub text: Txt,
 }
 

@@ -1,0 +1,66 @@
+-- A step from rest to rest: the plain slow program keeps the journal legal.
+use Rattle.std.proofs.Common.{◌≡◌, ℕ, suc, List, [], ◌∷◌, length, refl, sym, ap, cond, true, false, Bool, Option, Some, None, Result, Ok, Err, ◌∙◌, IsOk}
+use Rattle.std.specs.Prelude.{is_some}
+use Rattle.al_history.specs.declared.entry.Cause.{Cause}
+use Rattle.al_history.specs.declared.entry.Cause.TheVariants as causes
+use Rattle.al_history.specs.declared.entry.Entry.TheVariants.{Look, Refuse}
+use Rattle.al_history.specs.declared.statement.Statement.{Statement}
+use Rattle.al_history.specs.declared.statement.Statement.TheVariants as statements
+use Rattle.al_history.specs.declared.statement.Scripts.{Scripts}
+use Rattle.al_history.specs.Past.{Past}
+use Rattle.al_history.specs.Database.{Table, Database, named}
+use Rattle.al_history.specs.Change.{Alteration, alteration, Passes}
+use Rattle.al_history.specs.View.{latest}
+use Rattle.al_history.specs.Cause.{cause_of, name_cause, look_cause, refusal}
+use Rattle.al_app.specs.Rest.{IsAtRest}
+use Rattle.al_app.specs.Steps.{begun, xact_next, act_place, done_step, act_of, reply_of, past_by_look, past_by_name, past_after, changed, unless, db_after}
+use Rattle.al_app.proofs.Phases.{MayGive, InStep, begins, looks, refuses, ends, makes, adds, reads, alters, cause_in_step}
+
+-- a name that isn't missing is that of a table
+found : (o : Option Table) (cause : Cause) → cond (is_some o) None (Some cause) ≡ None → (t : Table) × (o ≡ Some t)
+found None cause e = absurd cc
+found (Some t) cause e = (t, refl)
+
+-- what isn't refused passes its tests
+passes : (r : Result Alteration Cause) (t : Table) (db : Database) → refusal r ≡ None → Passes r t db
+passes (Ok alteration) t db e = λ c tested. absurd c.demand
+passes (Err cause) t db e = absurd cc
+
+module _ (scripts : Scripts) (past : Past) (s block : ℕ) (db : Database) where
+  -- the past at the statement's Look, and with it
+  before_look : Past
+  before_look = begun s block past
+
+  is_done : (statement : Statement) → InStep scripts (Look (xact_next past) ∷ begun s block past) s block (xact_next past) statement (Some (begun s block past)) db → latest scripts (begun s block past) (xact_next past) ≡ db → name_cause statement db ≡ None → look_cause statement [] db db ≡ None → IsAtRest scripts (done_step s block (act_of statement past db) (reply_of statement past) past) (changed statement (act_place past) db)
+  is_done (statements.CreateTable name columns) p looked known free =
+      let none : cause_of scripts (Look (xact_next past) ∷ begun s block past) s ≡ None = cause_in_step scripts _ s block (xact_next past) _ _ db p ∙ rw p.latest_is free in
+      ends scripts _ s block (xact_next past) _ _ _ _ (makes scripts _ _ s block (xact_next past) name columns db p none) refl
+  is_done (statements.Insert name written) p looked known free =
+      let none : cause_of scripts (Look (xact_next past) ∷ begun s block past) s ≡ None = cause_in_step scripts _ s block (xact_next past) _ _ db p ∙ rw looked free in
+      let there = found (named db name) (causes.NoTable name) known in
+      rw there.1 (ends scripts _ s block (xact_next past) _ _ _ _ (adds scripts _ _ s block (xact_next past) name written there.0 db p none there.1) refl)
+  is_done (statements.Select name) p looked known free =
+      let none : cause_of scripts (Look (xact_next past) ∷ begun s block past) s ≡ None = cause_in_step scripts _ s block (xact_next past) _ _ db p in
+      let there = found (named db name) (causes.NoTable name) known in
+      rw there.1 (ends scripts _ s block (xact_next past) _ _ _ _ (reads scripts _ _ s block (xact_next past) name there.0 db p looked none there.1) refl)
+  is_done (statements.AddColumn name column) p looked known free =
+      let none : cause_of scripts (Look (xact_next past) ∷ begun s block past) s ≡ None = cause_in_step scripts _ s block (xact_next past) _ _ db p ∙ rw looked free in
+      let there = found (named db name) (causes.NoTable name) known in
+      let tested : Passes (alteration column there.0) there.0 db = passes (alteration column there.0) there.0 db (rw there.1 at free) in
+      rw there.1 (ends scripts _ s block (xact_next past) _ _ _ _ (alters scripts _ _ s block (xact_next past) name column there.0 db p none there.1 tested) refl)
+
+  by_look : (statement : Statement) (cause : Option Cause) → InStep scripts (Look (xact_next past) ∷ begun s block past) s block (xact_next past) statement (Some (begun s block past)) db → latest scripts (begun s block past) (xact_next past) ≡ db → name_cause statement db ≡ None → look_cause statement [] db db ≡ cause → IsAtRest scripts (past_by_look s block statement past db cause) (unless cause (changed statement (act_place past) db) db)
+  by_look statement None p looked known is = is_done statement p looked known is
+  by_look statement (Some cause) p looked known is =
+      let first_true : cause_of scripts (Look (xact_next past) ∷ begun s block past) s ≡ Some cause = cause_in_step scripts _ s block (xact_next past) _ _ db p ∙ rw p.latest_is is in
+      refuses scripts _ s block (xact_next past) statement _ cause db p first_true
+
+  by_name : (statement : Statement) (cause : Option Cause) → InStep scripts (begun s block past) s block (xact_next past) statement None db → name_cause statement db ≡ cause → IsAtRest scripts (past_by_name s block statement past db cause) (unless cause (unless (look_cause statement [] db db) (changed statement (act_place past) db) db) db)
+  by_name statement None p is = by_look statement (look_cause statement [] db db) (looks scripts _ s block (xact_next past) statement db p is) p.latest_is is refl
+  by_name statement (Some cause) p is =
+      let first_true : cause_of scripts (begun s block past) s ≡ Some cause = cause_in_step scripts _ s block (xact_next past) statement None db p ∙ ap (name_cause statement) p.latest_is ∙ is in
+      refuses scripts _ s block (xact_next past) statement _ cause db p first_true
+
+  -- a step leads from rest to rest
+  pub step_rests : (statement : Statement) → IsAtRest scripts past db → MayGive scripts past s block statement → IsAtRest scripts (past_after s block statement past db) (db_after statement (act_place past) db)
+  step_rests statement rest may = by_name statement (name_cause statement db) (begins scripts past s block statement db rest may) refl

@@ -1,0 +1,2 @@
+//! The top calls of `alterlive`: a spec file is read, its permutations are run, and the report is written.
+#![tactic(auto)]
