@@ -1,2 +1,4 @@
 pub mod Phases
 pub mod Step
+pub mod StoredLemmas
+pub mod AfterLemmas

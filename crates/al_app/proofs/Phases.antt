@@ -73,13 +73,15 @@ begins scripts past s block statement db rest may =
     let others : (r : ℕ) → (s == r) ≡ false → hand (Give s block ∷ past) r ≡ None = λ r other. rw other (rest.hands r) in
     let dones_is : dones (Give s block ∷ past) s ≡ 0 = rw same refl in
     let gives : MayCome scripts past (Give s block) = record {
-          rule = record { of_session = may.of_session; not_closed = may.not_closed; idle = rest.hands s };
-          follows = rw rest.owed_is tt;
-          alone = tt } in
+      rule = record { of_session = may.of_session; not_closed = may.not_closed; idle = rest.hands s };
+      follows = rw rest.owed_is tt;
+      alone = tt;
+    } in
     let starts : MayCome scripts (Give s block ∷ past) (Start s levels.ReadCommitted) = record {
-          rule = record { statement = rw (same, may.statement_is) refl; none_open = rest.xacts s; read_committed = refl };
-          follows = tt;
-          alone = tt } in
+      rule = record { statement = rw (same, may.statement_is) refl; none_open = rest.xacts s; read_committed = refl };
+      follows = tt;
+      alone = tt;
+    } in
     record {
       legal = (starts, (gives, rest.legal));
       driven = (least_of (Give s block ∷ past) s block hand_is others, (λ r. rw (rest.hands r) refl, rest.driven));
@@ -99,7 +101,7 @@ begins scripts past s block statement db rest may =
       committed_is = rest.committed_is;
       fates = λ y le. rest.fates y (omega arith);
       open_fate = rest.fates (suc (length past)) (omega arith);
-      below = omega arith
+      below = omega arith;
     }
 
 -- the statement in hand, and the cause that is judged, while a step has done nothing
@@ -114,13 +116,15 @@ looks scripts past s block x statement db p known =
     let cause : cause_of scripts past s ≡ None = cause_in_step scripts past s block x statement None db p ∙ ap (name_cause statement) p.latest_is ∙ known in
     let same : (x == x) ≡ true = if_same x in
     let comes : MayCome scripts past (Look x) = record {
-          rule = record {
-            open_xact = rw p.session_is p.xact_is;
-            statement = rw (p.session_is, in_hand_in_step scripts past s block x statement None db p) refl;
-            first = rw p.session_is p.look_is;
-            not_refused = rw p.session_is cause };
-          follows = rw p.owed_is tt;
-          alone = λ table used. tt } in
+      rule = record {
+        open_xact = rw p.session_is p.xact_is;
+        statement = rw (p.session_is, in_hand_in_step scripts past s block x statement None db p) refl;
+        first = rw p.session_is p.look_is;
+        not_refused = rw p.session_is cause;
+      };
+      follows = rw p.owed_is tt;
+      alone = λ table used. tt;
+    } in
     record {
       legal = (comes, p.legal);
       driven = (rw (p.owed_is, p.session_is) (least_of past s block p.hand_is p.others), p.driven);
@@ -140,7 +144,7 @@ looks scripts past s block x statement db p known =
       committed_is = p.committed_is;
       fates = λ y le. p.fates y (omega arith);
       open_fate = p.open_fate;
-      below = omega (arith, p.below)
+      below = omega (arith, p.below);
     }
 
 -- a statement has acted: this database is its transaction's latest
@@ -172,21 +176,25 @@ ends scripts past s block x statement acts reply db p answers =
     let owes_commit : owed scripts (Done s reply ∷ past) ≡ Some (Commit x) = rw (none_left, p.xact_is) refl in
     let closed_xact : xact_of (Commit x ∷ Done s reply ∷ past) s ≡ None = rw (p.xact_is, same_x) refl in
     let done_comes : MayCome scripts past (Done s reply) = record {
-          rule = record { answers = rw (p.hand_is, p.dones_is, p.statement_is, p.acts_is) answers };
-          follows = rw p.owed_is tt;
-          alone = tt } in
+      rule = record { answers = rw (p.hand_is, p.dones_is, p.statement_is, p.acts_is) answers };
+      follows = rw p.owed_is tt;
+      alone = tt;
+    } in
     let commit_comes : MayCome scripts (Done s reply ∷ past) (Commit x) = record {
-          rule = record {
-            open_xact = rw p.session_is p.xact_is;
-            in_step = rw (p.session_is, p.hand_is) refl;
-            none_left = rw p.session_is none_left;
-            none_refused = rw p.session_is p.none_refused };
-          follows = rw owes_commit refl;
-          alone = tt } in
+      rule = record {
+        open_xact = rw p.session_is p.xact_is;
+        in_step = rw (p.session_is, p.hand_is) refl;
+        none_left = rw p.session_is none_left;
+        none_refused = rw p.session_is p.none_refused;
+      };
+      follows = rw owes_commit refl;
+      alone = tt;
+    } in
     let end_comes : MayCome scripts (Commit x ∷ Done s reply ∷ past) (End s) = record {
-          rule = record { in_step = rw p.hand_is refl; over = inl none_left; none_implicit = closed_xact };
-          follows = rw p.session_is refl;
-          alone = tt } in
+      rule = record { in_step = rw p.hand_is refl; over = inl none_left; none_implicit = closed_xact };
+      follows = rw p.session_is refl;
+      alone = tt;
+    } in
     record {
       legal = (end_comes, (commit_comes, (done_comes, p.legal)));
       driven = (tt, (rw owes_commit tt, (rw p.owed_is (least_of past s block p.hand_is p.others), p.driven)));
@@ -194,14 +202,15 @@ ends scripts past s block x statement acts reply db p answers =
       xacts = λ r. xact_after r (eqb_tells s r);
       owed_is = refl;
       committed_is = committed_by_commit scripts (Done s reply ∷ past) x ∙ p.latest_is;
-      fates = λ y le. let other : (x == y) ≡ false = ne_eqb x y (λ e. omega (arith, p.below)) in rw other (p.fates y (omega arith))
+      fates = λ y le. let other : (x == y) ≡ false = ne_eqb x y (λ e. omega (arith, p.below)) in rw other (p.fates y (omega arith));
     } where
-  xact_after : (r : ℕ) → ((eqb s r ≡ true) × (s ≡ r)) ⊎ ((eqb s r ≡ false) × (s ≢ r)) → xact_of (Commit x ∷ Done s reply ∷ past) r ≡ None
-  xact_after r (inl e) = let own : xact_of past r ≡ Some x = subst (λ q. xact_of past q ≡ Some x) e.1 p.xact_is in rw (own, if_same x) refl
-  xact_after r (inr e) = rw (p.other_xacts r e.0) refl
-  hand_after : (b : Bool) (h : Option ℕ) → (b ≡ false → h ≡ None) → cond b None h ≡ None
-  hand_after true h f = refl
-  hand_after false h f = f refl
+      xact_after : (r : ℕ) → ((eqb s r ≡ true) × (s ≡ r)) ⊎ ((eqb s r ≡ false) × (s ≢ r)) → xact_of (Commit x ∷ Done s reply ∷ past) r ≡ None
+      xact_after r (inl e) = let own : xact_of past r ≡ Some x = subst (λ q. xact_of past q ≡ Some x) e.1 p.xact_is in rw (own, if_same x) refl
+      xact_after r (inr e) = rw (p.other_xacts r e.0) refl
+
+      hand_after : (b : Bool) (h : Option ℕ) → (b ≡ false → h ≡ None) → cond b None h ≡ None
+      hand_after true h f = refl
+      hand_after false h f = f refl
 
 -- the step of a statement that is refused ends with its Refuse, the Abort and the End, and changes nothing
 pub refuses : (scripts : Scripts) (past : Past) (s block x : ℕ) (statement : Statement) (look : Option Past) (cause : Cause) (db : Database) → InStep scripts past s block x statement look db → cause_of scripts past s ≡ Some cause → IsAtRest scripts (End s ∷ Abort x ∷ Refuse s cause ∷ past) db
@@ -211,17 +220,20 @@ refuses scripts past s block x statement look cause db p first_true =
     let is_refused : refused (Refuse s cause ∷ past) s ≡ true = rw same refl in
     let closed_xact : xact_of (Abort x ∷ Refuse s cause ∷ past) s ≡ None = rw (p.xact_is, same_x) refl in
     let refuse_comes : MayCome scripts past (Refuse s cause) = record {
-          rule = record { first_true = first_true };
-          follows = rw p.owed_is tt;
-          alone = tt } in
+      rule = record { first_true = first_true };
+      follows = rw p.owed_is tt;
+      alone = tt;
+    } in
     let abort_comes : MayCome scripts (Refuse s cause ∷ past) (Abort x) = record {
-          rule = record { open_xact = rw p.session_is p.xact_is; refused_or_idle = inl (rw p.session_is is_refused) };
-          follows = rw p.xact_is refl;
-          alone = tt } in
+      rule = record { open_xact = rw p.session_is p.xact_is; refused_or_idle = inl (rw p.session_is is_refused) };
+      follows = rw p.xact_is refl;
+      alone = tt;
+    } in
     let end_comes : MayCome scripts (Abort x ∷ Refuse s cause ∷ past) (End s) = record {
-          rule = record { in_step = rw p.hand_is refl; over = inr is_refused; none_implicit = closed_xact };
-          follows = rw (p.session_is, p.hand_is) refl;
-          alone = tt } in
+      rule = record { in_step = rw p.hand_is refl; over = inr is_refused; none_implicit = closed_xact };
+      follows = rw (p.session_is, p.hand_is) refl;
+      alone = tt;
+    } in
     record {
       legal = (end_comes, (abort_comes, (refuse_comes, p.legal)));
       driven = (tt, (rw (p.session_is, p.hand_is) tt, (rw p.owed_is (least_of past s block p.hand_is p.others), p.driven)));
@@ -229,14 +241,15 @@ refuses scripts past s block x statement look cause db p first_true =
       xacts = λ r. xact_after r (eqb_tells s r);
       owed_is = refl;
       committed_is = committed_by_abort scripts (Refuse s cause ∷ past) x p.open_fate ∙ p.committed_is;
-      fates = λ y le. let other : (x == y) ≡ false = ne_eqb x y (λ e. omega (arith, p.below)) in rw other (p.fates y (omega arith))
+      fates = λ y le. let other : (x == y) ≡ false = ne_eqb x y (λ e. omega (arith, p.below)) in rw other (p.fates y (omega arith));
     } where
-  xact_after : (r : ℕ) → ((eqb s r ≡ true) × (s ≡ r)) ⊎ ((eqb s r ≡ false) × (s ≢ r)) → xact_of (Abort x ∷ Refuse s cause ∷ past) r ≡ None
-  xact_after r (inl e) = let own : xact_of past r ≡ Some x = subst (λ q. xact_of past q ≡ Some x) e.1 p.xact_is in rw (own, if_same x) refl
-  xact_after r (inr e) = rw (p.other_xacts r e.0) refl
-  hand_after : (b : Bool) (h : Option ℕ) → (b ≡ false → h ≡ None) → cond b None h ≡ None
-  hand_after true h f = refl
-  hand_after false h f = f refl
+      xact_after : (r : ℕ) → ((eqb s r ≡ true) × (s ≡ r)) ⊎ ((eqb s r ≡ false) × (s ≢ r)) → xact_of (Abort x ∷ Refuse s cause ∷ past) r ≡ None
+      xact_after r (inl e) = let own : xact_of past r ≡ Some x = subst (λ q. xact_of past q ≡ Some x) e.1 p.xact_is in rw (own, if_same x) refl
+      xact_after r (inr e) = rw (p.other_xacts r e.0) refl
+
+      hand_after : (b : Bool) (h : Option ℕ) → (b ≡ false → h ≡ None) → cond b None h ≡ None
+      hand_after true h f = refl
+      hand_after false h f = f refl
 
 -- what a statement does is of its open transaction, which has looked
 act_rule : (scripts : Scripts) (past look : Past) (s block x : ℕ) (statement : Statement) (db : Database) → InStep scripts past s block x statement (Some look) db → cause_of scripts past s ≡ None → ActRule scripts past x
@@ -244,7 +257,8 @@ act_rule scripts past look s block x statement db p free = record {
   open_xact = rw p.session_is p.xact_is;
   looked = rw (p.session_is, p.look_is) refl;
   first = rw p.session_is p.acts_is;
-  not_refused = rw p.session_is free }
+  not_refused = rw p.session_is free;
+}
 
 -- an entry that only its own questions see: what a statement of the transaction does
 pub record IsActOf (x : ℕ) (e : Entry) : Type 0 where
@@ -292,7 +306,7 @@ acts scripts past look s block x statement db after e p act rule alone latest_is
       owed_is = act.owes_none scripts past;
       latest_is = latest_is;
       fates = λ y le. act.fate_same past y ∙ p.fates y (omega arith);
-      below = omega (arith, p.below)
+      below = omega (arith, p.below);
     }
 
 pub makes : (scripts : Scripts) (past look : Past) (s block x : ℕ) (name : List ℕ) (columns : List (List ℕ)) (db : Database) → InStep scripts past s block x (statements.CreateTable name columns) (Some look) db → cause_of scripts past s ≡ None → Acted scripts (Make x (length past) name (shape_of columns) ∷ past) s block x (statements.CreateTable name columns) (length past ∷ []) (made (length past) name (shape_of columns) db)
@@ -300,43 +314,47 @@ makes scripts past look s block x name columns db p free =
     let statement : Statement = statements.CreateTable name columns in
     let same_x : (x == x) ≡ true = if_same x in
     acts scripts past look s block x statement db (made (length past) name (shape_of columns) db) (Make x (length past) name (shape_of columns)) p (is_make x (length past) name (shape_of columns))
-      (record {
-        act = act_rule scripts past look s block x statement db p free;
-        creates = rw (p.session_is, in_hand_in_step scripts past s block x statement (Some look) db p) (refl, refl);
-        number = refl })
-      tt
-      (rw same_x (ap (made (length past) name (shape_of columns)) p.latest_is))
+    (record {
+      act = act_rule scripts past look s block x statement db p free;
+      creates = rw (p.session_is, in_hand_in_step scripts past s block x statement (Some look) db p) (refl, refl);
+      number = refl;
+    })
+    tt
+    (rw same_x (ap (made (length past) name (shape_of columns)) p.latest_is))
 
 pub adds : (scripts : Scripts) (past look : Past) (s block x : ℕ) (name : List ℕ) (written : List Value) (t : Table) (db : Database) → InStep scripts past s block x (statements.Insert name written) (Some look) db → cause_of scripts past s ≡ None → named db name ≡ Some t → Acted scripts (Add x t.number (filled t.columns written) ∷ past) s block x (statements.Insert name written) (length past ∷ []) (added (length past) t.number (filled t.columns written) db)
 adds scripts past look s block x name written t db p free there =
     let statement : Statement = statements.Insert name written in
     let same_x : (x == x) ≡ true = if_same x in
     acts scripts past look s block x statement db (added (length past) t.number (filled t.columns written) db) (Add x t.number (filled t.columns written)) p (is_add x t.number (filled t.columns written))
-      (record {
-        act = act_rule scripts past look s block x statement db p free;
-        inserts = rw (p.session_is, in_hand_in_step scripts past s block x statement (Some look) db p, p.latest_is, there) (refl, refl) })
-      tt
-      (rw same_x (ap (added (length past) t.number (filled t.columns written)) p.latest_is))
+    (record {
+      act = act_rule scripts past look s block x statement db p free;
+      inserts = rw (p.session_is, in_hand_in_step scripts past s block x statement (Some look) db p, p.latest_is, there) (refl, refl);
+    })
+    tt
+    (rw same_x (ap (added (length past) t.number (filled t.columns written)) p.latest_is))
 
 pub reads : (scripts : Scripts) (past look : Past) (s block x : ℕ) (name : List ℕ) (t : Table) (db : Database) → InStep scripts past s block x (statements.Select name) (Some look) db → latest scripts look x ≡ db → cause_of scripts past s ≡ None → named db name ≡ Some t → Acted scripts (Read x (column_names t) (answer t) ∷ past) s block x (statements.Select name) (length past ∷ []) db
 reads scripts past look s block x name t db p looked free there =
     let statement : Statement = statements.Select name in
     acts scripts past look s block x statement db db (Read x (column_names t) (answer t)) p (is_read x (column_names t) (answer t))
-      (record {
-        act = act_rule scripts past look s block x statement db p free;
-        selects = rw (p.session_is, in_hand_in_step scripts past s block x statement (Some look) db p, p.look_is, looked, there) (refl, refl) })
-      (rw (p.session_is, p.look_is) (λ table used. tt))
-      p.latest_is
+    (record {
+      act = act_rule scripts past look s block x statement db p free;
+      selects = rw (p.session_is, in_hand_in_step scripts past s block x statement (Some look) db p, p.look_is, looked, there) (refl, refl);
+    })
+    (rw (p.session_is, p.look_is) (λ table used. tt))
+    p.latest_is
 
 pub alters : (scripts : Scripts) (past look : Past) (s block x : ℕ) (name : List ℕ) (column : Column) (t : Table) (db : Database) → InStep scripts past s block x (statements.AddColumn name column) (Some look) db → cause_of scripts past s ≡ None → named db name ≡ Some t → Passes (alteration column t) t db → Acted scripts (Alter x t.number 0 [] ∷ past) s block x (statements.AddColumn name column) (length past ∷ []) (altered (Some (statements.AddColumn name column)) t.number db)
 alters scripts past look s block x name column t db p free there shaped =
     let statement : Statement = statements.AddColumn name column in
     let same_x : (x == x) ≡ true = if_same x in
     acts scripts past look s block x statement db (altered (Some statement) t.number db) (Alter x t.number 0 []) p (is_alter x t.number 0)
-      (record {
-        act = act_rule scripts past look s block x statement db p free;
-        alters = rw (p.session_is, in_hand_in_step scripts past s block x statement (Some look) db p, p.latest_is, there) (refl, shaped);
-        number = rw p.session_is (sym p.dones_is);
-        none_rewritten = refl })
-      (rw (p.session_is, p.look_is) (λ table used. tt))
-      (rw (same_x, p.session_is, p.hand_is, p.statement_is) (ap (altered (Some statement) t.number) p.latest_is))
+    (record {
+      act = act_rule scripts past look s block x statement db p free;
+      alters = rw (p.session_is, in_hand_in_step scripts past s block x statement (Some look) db p, p.latest_is, there) (refl, shaped);
+      number = rw p.session_is (sym p.dones_is);
+      none_rewritten = refl;
+    })
+    (rw (p.session_is, p.look_is) (λ table used. tt))
+    (rw (same_x, p.session_is, p.hand_is, p.statement_is) (ap (altered (Some statement) t.number) p.latest_is))

@@ -1,2 +1,4 @@
 pub mod Rest
 pub mod Steps
+pub mod Stored
+pub mod After

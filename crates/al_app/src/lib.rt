@@ -1,2 +1,4 @@
 //! The top calls of `alterlive`: a spec file is read, its permutations are run, and the report is written.
 #![tactic(auto)]
+
+mod engine;

@@ -1,8 +1,8 @@
 -- Laws of pasts.
-use Rattle.std.proofs.Common.{◌≡◌, ℕ, suc, ◌<◌, ◌≤◌, ◌+◌, List, [], ◌∷◌, ◌++◌, length, reverse, refl, sym, ap, cond, true, false, Bool, Option, Some, None, arith, subst, ◌∙◌, add-one}
+use Rattle.std.proofs.Common.{◌≡◌, ℕ, suc, ◌<◌, List, [], ◌∷◌, ◌++◌, length, reverse, refl, cond, true, false, Bool, Option, Some, None, arith}
 use Rattle.std.specs.Prelude.{◌==◌}
-use Rattle.std.proofs.lemmas.List.{reverse-append}
-use Rattle.std.proofs.lemmas.Bool.{eq-eqb, eqb-true}
+use Rattle.std.proofs.lemmas.List.{reverse-append, length-reverse}
+use Rattle.std.proofs.lemmas.Bool.{eq-eqb}
 use Rattle.al_history.specs.declared.entry.Entry.{Entry}
 use Rattle.al_history.specs.declared.entry.Entry.TheVariants.{Give, Start, Look, Make, Add, Read, Alter, Done, Refuse, Commit, Abort, End, Close}
 use Rattle.al_history.specs.Past.{Past}
@@ -12,6 +12,9 @@ use Rattle.al_history.specs.Fate.{is_that}
 -- an entry at the end of a journal is the newest of its past
 pub past_grows : (entries : List Entry) (e : Entry) → reverse (entries ++ e ∷ []) ≡ e ∷ reverse entries
 past_grows entries e = reverse-append entries (e ∷ [])
+
+pub past_length : (entries : List Entry) → length (reverse entries) ≡ length entries
+past_length entries = length-reverse entries
 
 pub if_same : (n : ℕ) → (n == n) ≡ true
 if_same n = eq-eqb n n refl

@@ -1,18 +1,14 @@
 -- Laws of views.
-use Rattle.std.proofs.Common.{◌≡◌, ℕ, suc, ◌<◌, ◌≤◌, ◌+◌, List, [], ◌∷◌, length, refl, sym, ap, cond, true, false, Bool, Option, Some, None, arith, subst, ◌∙◌}
+use Rattle.std.proofs.Common.{◌≡◌, ℕ, ◌<◌, ◌≤◌, [], ◌∷◌, length, refl, ap, cond, true, false, Bool, Some, None, arith}
 use Rattle.std.specs.Prelude.{◌==◌}
 use mathlib.Core.Path.{fun_ext}
-use Rattle.std.proofs.lemmas.Bool.{eq-eqb, eqb-true, ne_eqb}
-use Rattle.al_history.specs.declared.entry.Entry.{Entry}
+use Rattle.std.proofs.lemmas.Bool.{eqb-true, ne_eqb}
 use Rattle.al_history.specs.declared.entry.Entry.TheVariants.{Give, Start, Look, Make, Add, Read, Alter, Done, Refuse, Commit, Abort, End, Close}
 use Rattle.al_history.specs.declared.statement.Scripts.{Scripts}
 use Rattle.al_history.specs.Past.{Past}
-use Rattle.al_history.specs.Database.{Database}
-use Rattle.al_history.specs.Fate.{Fate, Open, Committed, Aborted, fate, Standing, Inside, Outside, Absent, standing, is_that, inside_if, outside_if}
-use Rattle.al_history.specs.Hand.{xact_of, session_of, hand, statement_of}
-use Rattle.al_history.specs.Change.{made, added, altered}
-use Rattle.al_history.specs.View.{view_by, latest, committed, effect, for_both, for_inside}
-use Rattle.al_history.specs.Rules.{Rule}
+use Rattle.al_history.specs.Fate.{Open, Committed, Aborted, fate, Standing, Inside, standing, inside_if, outside_if}
+use Rattle.al_history.specs.Hand.{session_of}
+use Rattle.al_history.specs.View.{view_by, latest, committed}
 use Rattle.al_history.specs.Legal.{Legal, HoldAlways}
 use Rattle.al_history.proofs.Pasts.{xact_below}
 

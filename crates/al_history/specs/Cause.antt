@@ -1,5 +1,6 @@
 -- Why a statement is refused (Appendix A; CREATE TABLE, INSERT, SELECT, ALTER TABLE in Part VI).
-use Rattle.std.specs.Prelude.{ℕ, List, [], ◌∷◌, ◌++◌, Bool, false, cond, ◌||◌, length, nat_lt, Option, Some, None, is_some, option_and_then, Result, Ok, Err}
+use Rattle.std.specs.Prelude.{ℕ, List, [], ◌∷◌, ◌++◌, Bool, cond, length, nat_lt, Option, Some, None, is_some, option_and_then, Result, Ok, Err}
+use Rattle.std.specs.List.{list_any}
 use Rattle.al_history.specs.declared.entry.Cause.{Cause}
 use Rattle.al_history.specs.declared.entry.Cause.TheVariants as causes
 use Rattle.al_history.specs.declared.statement.Column.{Column}
@@ -29,8 +30,7 @@ name_cause statement db = if_missing db (used_name statement)
 
 -- whether the name is among these
 abbrev pub is_among : List (List ℕ) → List ℕ → Bool
-is_among [] name = false
-is_among (n ∷ names) name = same_name n name || is_among names name
+is_among names name = list_any (λ (n : List ℕ). same_name n name) names
 
 -- the first name that stood before, in written order
 abbrev pub twice_column : List (List ℕ) → List (List ℕ) → Option Cause

@@ -1,5 +1,6 @@
 -- Tables and their rows (5.1, 5.4).
-use Rattle.std.specs.Prelude.{ℕ, List, [], ◌∷◌, ◌==◌, Bool, false, cond, ◌||◌, Option, Some, None, nat_eq}
+use Rattle.std.specs.Prelude.{ℕ, List, [], ◌∷◌, ◌==◌, Bool, cond, Option, Some, None, nat_eq}
+use Rattle.std.specs.List.{list_any}
 use Rattle.std.specs.Cmp.Lexicographic.{pointwise}
 use Rattle.al_history.specs.declared.statement.Column.{Column}
 use Rattle.al_values.specs.declared.scalar.Value.{Value}
@@ -43,18 +44,15 @@ named (t ∷ db) name = cond (same_name t.name name) (Some t) (named db name)
 
 -- whether a table has this number
 abbrev pub has_table : Database → ℕ → Bool
-has_table [] number = false
-has_table (t ∷ db) number = t.number == number || has_table db number
+has_table db number = list_any (λ (t : Table). t.number == number) db
 
 -- whether a row has this number
 abbrev pub has_row : List VersionedRow → ℕ → Bool
-has_row [] number = false
-has_row (r ∷ rows) number = r.number == number || has_row rows number
+has_row rows number = list_any (λ (r : VersionedRow). r.number == number) rows
 
 -- whether a column has this name
 abbrev pub has_column : List Column → List ℕ → Bool
-has_column [] name = false
-has_column (c ∷ columns) name = same_name c.name name || has_column columns name
+has_column columns name = list_any (λ (c : Column). same_name c.name name) columns
 
 -- the database with one of its tables changed
 abbrev pub with_table : ℕ → (Table → Table) → Database → Database

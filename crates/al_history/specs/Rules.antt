@@ -1,5 +1,5 @@
 -- When an entry may stand after a past. Each rule is a record of what it asks.
-use Rattle.std.specs.Prelude.{◌≡◌, ℕ, List, [], ◌∷◌, true, false, length, Option, Some, None, IsSome, IsOk, slice_get, option_map, ◌⊎◌, ◌<◌}
+use Rattle.std.specs.Prelude.{◌≡◌, ℕ, List, [], ◌∷◌, true, false, length, Option, Some, None, IsSome, slice_get, option_map, ◌⊎◌, ◌<◌}
 use Rattle.al_values.specs.declared.scalar.Value.{Value}
 use Rattle.al_history.specs.declared.entry.Level.{Level}
 use Rattle.al_history.specs.declared.entry.Level.TheVariants as levels

@@ -1,5 +1,5 @@
 -- The journal of a whole run: what the driver gives and closes, and who goes on in between (src/test/isolation/README).
-use Rattle.std.specs.Prelude.{◌≡◌, ℕ, zero, suc, List, [], ◌∷◌, ◌++◌, ◌+◌, ◌-◌, ◌<◌, ◌≤◌, ◌==◌, Bool, true, false, cond, map, length, Option, Some, None, IsSome, slice_get, option_map, unwrap_or, option_and_then, is_some}
+use Rattle.std.specs.Prelude.{◌≡◌, ℕ, zero, suc, List, [], ◌∷◌, ◌++◌, ◌+◌, ◌<◌, ◌≤◌, ◌==◌, Bool, true, false, cond, map, length, Option, Some, None, slice_get, option_map, unwrap_or, option_and_then, is_some}
 use Rattle.al_history.specs.declared.entry.Entry.{Entry}
 use Rattle.al_history.specs.declared.entry.Entry.TheVariants.{Give, Start, Look, Make, Add, Read, Alter, Done, Refuse, Commit, Abort, End, Close}
 use Rattle.al_history.specs.declared.spec.Block.{Block}

@@ -47,8 +47,11 @@ impl History {
     }
 
     /// How many entries there are.
+    #[tactic(auto, using(crate::proofs::Pasts::past_length))]
     pub fn len(&self) -> u32
-        ensures { result ≡ length self.now.entries }
+        ensures entries { result ≡ length self.now.entries }
+        ensures past { result ≡ length (past_of self.now) }
+        ensures few { result + self.now.room < 2 ^ 32 }
     {
         self.entries.len() as u32
     }

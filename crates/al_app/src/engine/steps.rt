@@ -1,0 +1,174 @@
+//! One step of each statement: it is judged, what it takes is copied and reserved, and then the tables and the journal
+//! change together.
+ghost use Rattle.std.specs.Prelude.{◌≡◌, ◌<◌, ◌≤◌, ◌++◌, ◌∷◌, [], length, slice_get, slice_set, IfOk, IfSome, OnOk, OnErr, vec_len};
+ghost use Rattle.al_history.specs.declared.statement.Statement.TheVariants as statements;
+ghost use Rattle.al_history.specs.Past.{past_of};
+ghost use Rattle.al_app.specs.Stored.{AreSound, with_stored_row, with_stored_column};
+ghost use Rattle.al_app.specs.After.{IsAfter, IsBefore};
+
+use super::causes::{alter_cause, count_cause, create_cause};
+use super::notes::{Given, STEP_ENTRIES, note_done, note_refused, note_unknown};
+use super::stored::{StoredRow, StoredTable, filled, filled_rows, names_of, position_of, shape_of};
+use al_history::{Cause, Column, Entry, History, Reply, RewrittenList, Tag};
+use al_values::{Copied, ListOf, Name, NameList, NoMemory, Row};
+use std::alloc::Global;
+
+/// CREATE TABLE.
+pub fn create_table(
+    alloc: Global,
+    journal: &mut History,
+    tables: &mut Vec<StoredTable>,
+    given: Given,
+    name: &Name,
+    columns: &NameList,
+) -> Result<(), NoMemory>
+    requires { AreSound 0 (length (past_of journal.old)) tables.old.items }
+    ensures ok { OnOk result (IsAfter given.session given.block (statements.CreateTable name.now columns.now) (past_of journal.old) (past_of journal.new) tables.old.items tables.new.items) }
+    ensures err { OnErr result (IsBefore (past_of journal.old) (past_of journal.new) tables.old.items tables.new.items) }
+{
+    journal.reserve(STEP_ENTRIES)?;
+    if let Some(cause) = create_cause(alloc, tables, name, columns.as_slice())? {
+        note_refused(journal, given, cause);
+        return Ok(());
+    }
+    let number = journal.len() + 3;
+    let table = StoredTable {
+        number,
+        name: name.copied(alloc)?,
+        columns: shape_of(alloc, columns.as_slice())?,
+        rows: ListOf::new(alloc),
+    };
+    let act = Entry::Make {
+        xact: journal.len() + 1,
+        table: number,
+        name: name.copied(alloc)?,
+        shape: shape_of(alloc, columns.as_slice())?,
+    };
+    tables.push(table)?;
+    let tag = Tag::CreateTable;
+    note_done(journal, given, act, Reply::Tag { tag, count: 0 });
+    Ok(())
+}
+
+/// INSERT.
+pub fn insert(
+    alloc: Global,
+    journal: &mut History,
+    tables: &mut Vec<StoredTable>,
+    given: Given,
+    name: &Name,
+    written: &Row,
+) -> Result<(), NoMemory>
+    requires { AreSound 0 (length (past_of journal.old)) tables.old.items }
+    ensures ok { OnOk result (IsAfter given.session given.block (statements.Insert name.now written.now) (past_of journal.old) (past_of journal.new) tables.old.items tables.new.items) }
+    ensures err { OnErr result (IsBefore (past_of journal.old) (past_of journal.new) tables.old.items tables.new.items) }
+{
+    journal.reserve(STEP_ENTRIES)?;
+    let Some(at) = position_of(tables, name) else {
+        let name = name.copied(alloc)?;
+        note_unknown(journal, given, Cause::NoTable { name });
+        return Ok(());
+    };
+    let table = &tables[at];
+    if let Some(cause) = count_cause(table, written.len())? {
+        note_refused(journal, given, cause);
+        return Ok(());
+    }
+    let act = Entry::Add {
+        xact: journal.len() + 1,
+        table: table.number,
+        row: filled(alloc, table.columns.as_slice(), written)?,
+    };
+    let row = StoredRow {
+        number: journal.len() + 3,
+        values: written.copied(alloc)?,
+    };
+    push_row(tables, at, row)?;
+    let tag = Tag::Insert;
+    note_done(journal, given, act, Reply::Tag { tag, count: 1 });
+    Ok(())
+}
+
+/// SELECT.
+pub fn select(
+    alloc: Global,
+    journal: &mut History,
+    tables: &[StoredTable],
+    given: Given,
+    name: &Name,
+) -> Result<(), NoMemory>
+    requires { AreSound 0 (length (past_of journal.old)) tables.now }
+    ensures ok { OnOk result (IsAfter given.session given.block (statements.Select name.now) (past_of journal.old) (past_of journal.new) tables.now tables.now) }
+    ensures err { OnErr result (past_of journal.new ≡ past_of journal.old) }
+{
+    journal.reserve(STEP_ENTRIES)?;
+    let Some(at) = position_of(tables, name) else {
+        let name = name.copied(alloc)?;
+        note_unknown(journal, given, Cause::NoTable { name });
+        return Ok(());
+    };
+    let table = &tables[at];
+    let act = Entry::Read {
+        xact: journal.len() + 1,
+        names: names_of(alloc, table.columns.as_slice())?,
+        rows: filled_rows(alloc, table.columns.as_slice(), table.rows.as_slice())?,
+    };
+    let entry = journal.len() + 3;
+    note_done(journal, given, act, Reply::Rows { entry });
+    Ok(())
+}
+
+/// ALTER TABLE with ADD COLUMN. No row is copied: it has the column's default from then on.
+pub fn add_column(
+    alloc: Global,
+    journal: &mut History,
+    tables: &mut Vec<StoredTable>,
+    given: Given,
+    name: &Name,
+    column: &Column,
+) -> Result<(), NoMemory>
+    requires { AreSound 0 (length (past_of journal.old)) tables.old.items }
+    ensures ok { OnOk result (IsAfter given.session given.block (statements.AddColumn name.now column.now) (past_of journal.old) (past_of journal.new) tables.old.items tables.new.items) }
+    ensures err { OnErr result (IsBefore (past_of journal.old) (past_of journal.new) tables.old.items tables.new.items) }
+{
+    journal.reserve(STEP_ENTRIES)?;
+    let Some(at) = position_of(tables, name) else {
+        let name = name.copied(alloc)?;
+        note_unknown(journal, given, Cause::NoTable { name });
+        return Ok(());
+    };
+    let table = &tables[at];
+    if let Some(cause) = alter_cause(alloc, table, column)? {
+        note_refused(journal, given, cause);
+        return Ok(());
+    }
+    let act = Entry::Alter {
+        xact: journal.len() + 1,
+        table: table.number,
+        statement: 0,
+        rewritten: RewrittenList::new(alloc),
+    };
+    let column = column.copied(alloc)?;
+    push_column(tables, at, column)?;
+    let tag = Tag::AlterTable;
+    note_done(journal, given, act, Reply::Tag { tag, count: 0 });
+    Ok(())
+}
+
+fn push_row(tables: &mut Vec<StoredTable>, at: usize, row: StoredRow) -> Result<(), NoMemory>
+    requires { at < vec_len tables.old }
+    ensures ok { OnOk result (IfSome (slice_get tables.old.items at) (λ t. tables.new.items ≡ slice_set tables.old.items at (with_stored_row row t))) }
+    ensures err { OnErr result (tables.new.items ≡ tables.old.items) }
+{
+    let table = &mut tables[at];
+    table.rows.push(row)
+}
+
+fn push_column(tables: &mut Vec<StoredTable>, at: usize, column: Column) -> Result<(), NoMemory>
+    requires { at < vec_len tables.old }
+    ensures ok { OnOk result (IfSome (slice_get tables.old.items at) (λ t. tables.new.items ≡ slice_set tables.old.items at (with_stored_column column t))) }
+    ensures err { OnErr result (tables.new.items ≡ tables.old.items) }
+{
+    let table = &mut tables[at];
+    table.columns.push(column)
+}
