@@ -18,6 +18,7 @@ use Rattle.al_history.specs.Database.{VersionedRow, Table, Database, named, has_
 use Rattle.al_history.specs.Query.{column_names, answer}
 use Rattle.al_history.specs.Change.{shape_of, filled, with_row, Alteration, alteration, after_alteration}
 use Rattle.al_history.specs.Cause.{used_name, if_missing, name_cause, look_cause, create_cause, count_cause, alter_cause, refusal}
+use Rattle.al_app.specs.declared.engine.steps.Ended.TheVariants as ends
 use Rattle.al_app.specs.declared.engine.stored.StoredRow.{StoredRow}
 use Rattle.al_app.specs.declared.engine.stored.StoredTable.{StoredTable}
 use Rattle.al_app.specs.Steps.{act_place, done_step, refused_step, unknown_step, act_of, reply_of, changed}
@@ -26,25 +27,28 @@ use Rattle.al_app.specs.After.{IsAfter, IsBefore}
 use Rattle.al_app.proofs.StoredLemmas.{sound_more, not_there, sound_push, tables_push, tables_set, sound_set, sound_at, rows_below_more, rows_below_push, rows_fit_push, rows_fit_more, with_row_is, with_column_is}
 
 module _ (s block : ℕ) (before after : Past) (old : List StoredTable) where
-  pub unknown_after : (statement : Statement) (cause : Cause) → name_cause statement (tables_of old) ≡ Some cause → after ≡ unknown_step s block cause before → AreSound 0 (length before) old → IsAfter s block statement before after old old
+  pub unknown_after : (statement : Statement) (cause : Cause) → name_cause statement (tables_of old) ≡ Some cause → after ≡ unknown_step s block cause before → AreSound 0 (length before) old → IsAfter ends.Refused s block statement before after old old
   unknown_after statement cause named_so is sound = record {
     journal = is ∙ rw named_so refl;
     tables = rw named_so refl;
     sound = rw is (sound_more 0 (length before) _ old (omega arith) sound);
+    ended_so = rw named_so refl;
   }
 
-  pub refused_after : (statement : Statement) (cause : Cause) → name_cause statement (tables_of old) ≡ None → look_cause statement [] (tables_of old) (tables_of old) ≡ Some cause → after ≡ refused_step s block cause before → AreSound 0 (length before) old → IsAfter s block statement before after old old
+  pub refused_after : (statement : Statement) (cause : Cause) → name_cause statement (tables_of old) ≡ None → look_cause statement [] (tables_of old) (tables_of old) ≡ Some cause → after ≡ refused_step s block cause before → AreSound 0 (length before) old → IsAfter ends.Refused s block statement before after old old
   refused_after statement cause known judged is sound = record {
     journal = is ∙ rw (known, judged) refl;
     tables = rw (known, judged) refl;
     sound = rw is (sound_more 0 (length before) _ old (omega arith) sound);
+    ended_so = rw (known, judged) refl;
   }
 
-  pub done_after : (statement : Statement) (new : List StoredTable) → name_cause statement (tables_of old) ≡ None → look_cause statement [] (tables_of old) (tables_of old) ≡ None → after ≡ done_step s block (act_of statement before (tables_of old)) (reply_of statement before) before → tables_of new ≡ changed statement (act_place before) (tables_of old) → AreSound 0 (length after) new → IsAfter s block statement before after old new
+  pub done_after : (statement : Statement) (new : List StoredTable) → name_cause statement (tables_of old) ≡ None → look_cause statement [] (tables_of old) (tables_of old) ≡ None → after ≡ done_step s block (act_of statement before (tables_of old)) (reply_of statement before) before → tables_of new ≡ changed statement (act_place before) (tables_of old) → AreSound 0 (length after) new → IsAfter ends.Done s block statement before after old new
   done_after statement new known free is tables sound = record {
     journal = is ∙ rw (known, free) refl;
     tables = tables ∙ rw (known, free) refl;
     sound = sound;
+    ended_so = rw (known, free) refl;
   }
 
 -- numbers as the code counts them
@@ -58,7 +62,7 @@ absent : (o : Option Table) (name : List ℕ) (columns : List (List ℕ)) (cause
 absent None name columns cause e = refl
 absent (Some t) name columns cause e = absurd cc
 
-pub create_after : (s block n : ℕ) (name : List ℕ) (columns : List (List ℕ)) (before after : Past) (old new : List StoredTable) → n ≡ length before → create_cause name columns (tables_of old) ≡ None → new ≡ old ++ record { number = n + 3; name = name; columns = shape_of columns; rows = [] } ∷ [] → after ≡ done_step s block (Make (n + 1) (n + 3) name (shape_of columns)) (replies.Tag tags.CreateTable 0) before → AreSound 0 (length before) old → IsAfter s block (statements.CreateTable name columns) before after old new
+pub create_after : (s block n : ℕ) (name : List ℕ) (columns : List (List ℕ)) (before after : Past) (old new : List StoredTable) → n ≡ length before → create_cause name columns (tables_of old) ≡ None → new ≡ old ++ record { number = n + 3; name = name; columns = shape_of columns; rows = [] } ∷ [] → after ≡ done_step s block (Make (n + 1) (n + 3) name (shape_of columns)) (replies.Tag tags.CreateTable 0) before → AreSound 0 (length before) old → IsAfter ends.Done s block (statements.CreateTable name columns) before after old new
 create_after s block n name columns before after old new counted free is_new is sound =
     let place : n + 3 ≡ act_place before = three_more n ∙ ap (λ (m : ℕ). suc (suc (suc m))) counted in
     let xact : n + 1 ≡ suc (length before) = one_more n ∙ ap suc counted in
@@ -79,7 +83,7 @@ named_is old at t name found there = sym found ∙ ap (option_map table_of) ther
 pub known_name : (old : List StoredTable) (at : ℕ) (t : StoredTable) (name : List ℕ) → option_map table_of (slice_get old at) ≡ named (tables_of old) name → slice_get old at ≡ Some t → if_missing (tables_of old) (Some name) ≡ None
 known_name old at t name found there = rw (named_is old at t name found there) refl
 
-pub unknown_table : (s block : ℕ) (before after : Past) (old : List StoredTable) (statement : Statement) (name : List ℕ) → used_name statement ≡ Some name → named (tables_of old) name ≡ None → after ≡ unknown_step s block (causes.NoTable name) before → AreSound 0 (length before) old → IsAfter s block statement before after old old
+pub unknown_table : (s block : ℕ) (before after : Past) (old : List StoredTable) (statement : Statement) (name : List ℕ) → used_name statement ≡ Some name → named (tables_of old) name ≡ None → after ≡ unknown_step s block (causes.NoTable name) before → AreSound 0 (length before) old → IsAfter ends.Refused s block statement before after old old
 unknown_table s block before after old statement name uses none note sound =
     unknown_after s block before after old statement (causes.NoTable name) (rw (uses, none) refl) note sound
 
@@ -94,12 +98,12 @@ counted want got e = by_test (nat_lt want got) e (λ h. omega (arith, ltb-false 
   by_test true e f = absurd cc
   by_test false e f = f refl
 
-pub insert_refused : (s block : ℕ) (name : List ℕ) (written : List Value) (before after : Past) (old : List StoredTable) (at : ℕ) (t : StoredTable) (cause : Cause) → at < length old → t ≡ get_or old at t → option_map table_of (slice_get old at) ≡ named (tables_of old) name → count_cause (length written) (Some (table_of t)) ≡ Some cause → after ≡ refused_step s block cause before → AreSound 0 (length before) old → IsAfter s block (statements.Insert name written) before after old old
+pub insert_refused : (s block : ℕ) (name : List ℕ) (written : List Value) (before after : Past) (old : List StoredTable) (at : ℕ) (t : StoredTable) (cause : Cause) → at < length old → t ≡ get_or old at t → option_map table_of (slice_get old at) ≡ named (tables_of old) name → count_cause (length written) (Some (table_of t)) ≡ Some cause → after ≡ refused_step s block cause before → AreSound 0 (length before) old → IsAfter ends.Refused s block (statements.Insert name written) before after old old
 insert_refused s block name written before after old at t cause lt is found judged note sound =
     let there = got old at t lt is in
     refused_after s block before after old (statements.Insert name written) cause (known_name old at t name found there) (rw (named_is old at t name found there) judged) note sound
 
-pub insert_after : (s block n : ℕ) (name : List ℕ) (written : List Value) (before after : Past) (old new : List StoredTable) (at : ℕ) (t : StoredTable) → at < length old → t ≡ get_or old at t → option_map table_of (slice_get old at) ≡ named (tables_of old) name → n ≡ length before → count_cause (length written) (Some (table_of t)) ≡ None → IfSome (slice_get old at) (λ u. new ≡ slice_set old at (with_stored_row (record { number = n + 3; values = written }) u)) → after ≡ done_step s block (Add (n + 1) t.number (filled t.columns written)) (replies.Tag tags.Insert 1) before → AreSound 0 (length before) old → IsAfter s block (statements.Insert name written) before after old new
+pub insert_after : (s block n : ℕ) (name : List ℕ) (written : List Value) (before after : Past) (old new : List StoredTable) (at : ℕ) (t : StoredTable) → at < length old → t ≡ get_or old at t → option_map table_of (slice_get old at) ≡ named (tables_of old) name → n ≡ length before → count_cause (length written) (Some (table_of t)) ≡ None → IfSome (slice_get old at) (λ u. new ≡ slice_set old at (with_stored_row (record { number = n + 3; values = written }) u)) → after ≡ done_step s block (Add (n + 1) t.number (filled t.columns written)) (replies.Tag tags.Insert 1) before → AreSound 0 (length before) old → IsAfter ends.Done s block (statements.Insert name written) before after old new
 insert_after s block n name written before after old new at t lt is found counts free pushed note sound =
     let there : slice_get old at ≡ Some t = got old at t lt is in
     let here : named (tables_of old) name ≡ Some (table_of t) = named_is old at t name found there in
@@ -122,7 +126,7 @@ all_answered : (columns : List Column) (rows : List StoredRow) → map (λ (r : 
 all_answered columns [] = refl
 all_answered columns (r ∷ rows) = ap (λ (rest : List (List Value)). filled columns r.values ∷ rest) (all_answered columns rows)
 
-pub select_after : (s block n : ℕ) (name : List ℕ) (before after : Past) (old : List StoredTable) (at : ℕ) (t : StoredTable) → at < length old → t ≡ get_or old at t → option_map table_of (slice_get old at) ≡ named (tables_of old) name → n ≡ length before → after ≡ done_step s block (Read (n + 1) (names_of t.columns) (filled_rows t.columns t.rows)) (replies.Rows (n + 3)) before → AreSound 0 (length before) old → IsAfter s block (statements.Select name) before after old old
+pub select_after : (s block n : ℕ) (name : List ℕ) (before after : Past) (old : List StoredTable) (at : ℕ) (t : StoredTable) → at < length old → t ≡ get_or old at t → option_map table_of (slice_get old at) ≡ named (tables_of old) name → n ≡ length before → after ≡ done_step s block (Read (n + 1) (names_of t.columns) (filled_rows t.columns t.rows)) (replies.Rows (n + 3)) before → AreSound 0 (length before) old → IsAfter ends.Done s block (statements.Select name) before after old old
 select_after s block n name before after old at t lt is found counts note sound =
     let there : slice_get old at ≡ Some t = got old at t lt is in
     let here : named (tables_of old) name ≡ Some (table_of t) = named_is old at t name found there in
@@ -138,12 +142,12 @@ no_refusal : (b : Bool) (cause : Cause) (a : Alteration) → refusal (cond b (Er
 no_refusal true cause a e = absurd cc
 no_refusal false cause a e = refl
 
-pub alter_refused : (s block : ℕ) (name : List ℕ) (column : Column) (before after : Past) (old : List StoredTable) (at : ℕ) (t : StoredTable) (cause : Cause) → at < length old → t ≡ get_or old at t → option_map table_of (slice_get old at) ≡ named (tables_of old) name → alter_cause column (Some (table_of t)) ≡ Some cause → after ≡ refused_step s block cause before → AreSound 0 (length before) old → IsAfter s block (statements.AddColumn name column) before after old old
+pub alter_refused : (s block : ℕ) (name : List ℕ) (column : Column) (before after : Past) (old : List StoredTable) (at : ℕ) (t : StoredTable) (cause : Cause) → at < length old → t ≡ get_or old at t → option_map table_of (slice_get old at) ≡ named (tables_of old) name → alter_cause column (Some (table_of t)) ≡ Some cause → after ≡ refused_step s block cause before → AreSound 0 (length before) old → IsAfter ends.Refused s block (statements.AddColumn name column) before after old old
 alter_refused s block name column before after old at t cause lt is found judged note sound =
     let there = got old at t lt is in
     refused_after s block before after old (statements.AddColumn name column) cause (known_name old at t name found there) (rw (named_is old at t name found there) judged) note sound
 
-pub alter_after : (s block n : ℕ) (name : List ℕ) (column : Column) (before after : Past) (old new : List StoredTable) (at : ℕ) (t : StoredTable) → at < length old → t ≡ get_or old at t → option_map table_of (slice_get old at) ≡ named (tables_of old) name → n ≡ length before → alter_cause column (Some (table_of t)) ≡ None → IfSome (slice_get old at) (λ u. new ≡ slice_set old at (with_stored_column column u)) → after ≡ done_step s block (Alter (n + 1) t.number 0 []) (replies.Tag tags.AlterTable 0) before → AreSound 0 (length before) old → IsAfter s block (statements.AddColumn name column) before after old new
+pub alter_after : (s block n : ℕ) (name : List ℕ) (column : Column) (before after : Past) (old new : List StoredTable) (at : ℕ) (t : StoredTable) → at < length old → t ≡ get_or old at t → option_map table_of (slice_get old at) ≡ named (tables_of old) name → n ≡ length before → alter_cause column (Some (table_of t)) ≡ None → IfSome (slice_get old at) (λ u. new ≡ slice_set old at (with_stored_column column u)) → after ≡ done_step s block (Alter (n + 1) t.number 0 []) (replies.Tag tags.AlterTable 0) before → AreSound 0 (length before) old → IsAfter ends.Done s block (statements.AddColumn name column) before after old new
 alter_after s block n name column before after old new at t lt is found counts free pushed note sound =
     let there : slice_get old at ≡ Some t = got old at t lt is in
     let here : named (tables_of old) name ≡ Some (table_of t) = named_is old at t name found there in

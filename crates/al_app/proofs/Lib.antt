@@ -2,3 +2,11 @@ pub mod Phases
 pub mod Step
 pub mod StoredLemmas
 pub mod AfterLemmas
+pub mod EngineLemmas
+pub mod FirstLexing
+pub mod FirstLoops
+pub mod FirstStatements
+pub mod FirstFiles
+pub mod FirstShapes
+pub mod ReportLemmas
+mod ReportVectors

@@ -2,3 +2,13 @@ pub mod Rest
 pub mod Steps
 pub mod Stored
 pub mod After
+pub mod Ran
+pub mod Kept
+pub mod Runs
+pub mod FirstSteps
+pub mod FirstOutside
+pub mod FirstInside
+pub mod First
+pub mod FirstShape
+pub mod FirstReading
+pub mod Report

@@ -2,3 +2,6 @@
 #![tactic(auto)]
 
 mod engine;
+mod first;
+mod report;
+mod runs;

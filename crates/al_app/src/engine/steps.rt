@@ -13,6 +13,13 @@ use al_history::{Cause, Column, Entry, History, Reply, RewrittenList, Tag};
 use al_values::{Copied, ListOf, Name, NameList, NoMemory, Row};
 use std::alloc::Global;
 
+/// How the statement of a step ended.
+#[derive(Clone, Copy, Debug, PartialEq, Eq)]
+pub enum Ended {
+    Done,
+    Refused,
+}
+
 /// CREATE TABLE.
 pub fn create_table(
     alloc: Global,
@@ -21,15 +28,15 @@ pub fn create_table(
     given: Given,
     name: &Name,
     columns: &NameList,
-) -> Result<(), NoMemory>
+) -> Result<Ended, NoMemory>
     requires { AreSound 0 (length (past_of journal.old)) tables.old.items }
-    ensures ok { OnOk result (IsAfter given.session given.block (statements.CreateTable name.now columns.now) (past_of journal.old) (past_of journal.new) tables.old.items tables.new.items) }
+    ensures ok { IfOk result (λ ended. IsAfter ended given.session given.block (statements.CreateTable name.now columns.now) (past_of journal.old) (past_of journal.new) tables.old.items tables.new.items) }
     ensures err { OnErr result (IsBefore (past_of journal.old) (past_of journal.new) tables.old.items tables.new.items) }
 {
     journal.reserve(STEP_ENTRIES)?;
     if let Some(cause) = create_cause(alloc, tables, name, columns.as_slice())? {
         note_refused(journal, given, cause);
-        return Ok(());
+        return Ok(Ended::Refused);
     }
     let number = journal.len() + 3;
     let table = StoredTable {
@@ -47,7 +54,7 @@ pub fn create_table(
     tables.push(table)?;
     let tag = Tag::CreateTable;
     note_done(journal, given, act, Reply::Tag { tag, count: 0 });
-    Ok(())
+    Ok(Ended::Done)
 }
 
 /// INSERT.
@@ -58,21 +65,21 @@ pub fn insert(
     given: Given,
     name: &Name,
     written: &Row,
-) -> Result<(), NoMemory>
+) -> Result<Ended, NoMemory>
     requires { AreSound 0 (length (past_of journal.old)) tables.old.items }
-    ensures ok { OnOk result (IsAfter given.session given.block (statements.Insert name.now written.now) (past_of journal.old) (past_of journal.new) tables.old.items tables.new.items) }
+    ensures ok { IfOk result (λ ended. IsAfter ended given.session given.block (statements.Insert name.now written.now) (past_of journal.old) (past_of journal.new) tables.old.items tables.new.items) }
     ensures err { OnErr result (IsBefore (past_of journal.old) (past_of journal.new) tables.old.items tables.new.items) }
 {
     journal.reserve(STEP_ENTRIES)?;
     let Some(at) = position_of(tables, name) else {
         let name = name.copied(alloc)?;
         note_unknown(journal, given, Cause::NoTable { name });
-        return Ok(());
+        return Ok(Ended::Refused);
     };
     let table = &tables[at];
     if let Some(cause) = count_cause(table, written.len())? {
         note_refused(journal, given, cause);
-        return Ok(());
+        return Ok(Ended::Refused);
     }
     let act = Entry::Add {
         xact: journal.len() + 1,
@@ -86,7 +93,7 @@ pub fn insert(
     push_row(tables, at, row)?;
     let tag = Tag::Insert;
     note_done(journal, given, act, Reply::Tag { tag, count: 1 });
-    Ok(())
+    Ok(Ended::Done)
 }
 
 /// SELECT.
@@ -96,16 +103,16 @@ pub fn select(
     tables: &[StoredTable],
     given: Given,
     name: &Name,
-) -> Result<(), NoMemory>
+) -> Result<Ended, NoMemory>
     requires { AreSound 0 (length (past_of journal.old)) tables.now }
-    ensures ok { OnOk result (IsAfter given.session given.block (statements.Select name.now) (past_of journal.old) (past_of journal.new) tables.now tables.now) }
+    ensures ok { IfOk result (λ ended. IsAfter ended given.session given.block (statements.Select name.now) (past_of journal.old) (past_of journal.new) tables.now tables.now) }
     ensures err { OnErr result (past_of journal.new ≡ past_of journal.old) }
 {
     journal.reserve(STEP_ENTRIES)?;
     let Some(at) = position_of(tables, name) else {
         let name = name.copied(alloc)?;
         note_unknown(journal, given, Cause::NoTable { name });
-        return Ok(());
+        return Ok(Ended::Refused);
     };
     let table = &tables[at];
     let act = Entry::Read {
@@ -115,7 +122,7 @@ pub fn select(
     };
     let entry = journal.len() + 3;
     note_done(journal, given, act, Reply::Rows { entry });
-    Ok(())
+    Ok(Ended::Done)
 }
 
 /// ALTER TABLE with ADD COLUMN. No row is copied: it has the column's default from then on.
@@ -126,21 +133,21 @@ pub fn add_column(
     given: Given,
     name: &Name,
     column: &Column,
-) -> Result<(), NoMemory>
+) -> Result<Ended, NoMemory>
     requires { AreSound 0 (length (past_of journal.old)) tables.old.items }
-    ensures ok { OnOk result (IsAfter given.session given.block (statements.AddColumn name.now column.now) (past_of journal.old) (past_of journal.new) tables.old.items tables.new.items) }
+    ensures ok { IfOk result (λ ended. IsAfter ended given.session given.block (statements.AddColumn name.now column.now) (past_of journal.old) (past_of journal.new) tables.old.items tables.new.items) }
     ensures err { OnErr result (IsBefore (past_of journal.old) (past_of journal.new) tables.old.items tables.new.items) }
 {
     journal.reserve(STEP_ENTRIES)?;
     let Some(at) = position_of(tables, name) else {
         let name = name.copied(alloc)?;
         note_unknown(journal, given, Cause::NoTable { name });
-        return Ok(());
+        return Ok(Ended::Refused);
     };
     let table = &tables[at];
     if let Some(cause) = alter_cause(alloc, table, column)? {
         note_refused(journal, given, cause);
-        return Ok(());
+        return Ok(Ended::Refused);
     }
     let act = Entry::Alter {
         xact: journal.len() + 1,
@@ -152,7 +159,7 @@ pub fn add_column(
     push_column(tables, at, column)?;
     let tag = Tag::AlterTable;
     note_done(journal, given, act, Reply::Tag { tag, count: 0 });
-    Ok(())
+    Ok(Ended::Done)
 }
 
 fn push_row(tables: &mut Vec<StoredTable>, at: usize, row: StoredRow) -> Result<(), NoMemory>

@@ -1,0 +1,52 @@
+-- What the driver did to the engine.
+use Rattle.std.specs.Prelude.{◌≡◌, ℕ, ◌+◌, ◌^◌, ◌<◌, ◌≤◌, Bool, false, List, [], ◌∷◌, ◌++◌, map, length, ◌||◌, ◌&&◌, nat_le, nat_lt, Option, Some, None}
+use Rattle.al_history.specs.declared.run.Setup.{Setup}
+use Rattle.al_history.specs.declared.run.Setup.TheVariants as setups
+use Rattle.al_history.specs.declared.spec.Block.{Block}
+use Rattle.al_history.specs.declared.spec.Spec.{Spec}
+use Rattle.al_history.specs.declared.statement.ScriptBlock.{ScriptBlock}
+use Rattle.al_history.specs.declared.statement.Scripts.{Scripts}
+use Rattle.al_history.specs.Hand.{closed}
+use Rattle.al_history.specs.Whole.{driver, setup_blocks, given, up_to, failed_setup, closes}
+use Rattle.al_app.specs.First.{EachWith}
+use Rattle.al_app.specs.FirstShape.{HasOne}
+use Rattle.al_app.specs.Ran.{Ran}
+
+-- each block has its one statement, and there are fewer blocks than numbers
+pub record IsRunnable (spec : Spec) (scripts : Scripts) : Type 0 where
+  pub few : length spec.blocks < 2 ^ 32
+  pub each : EachWith HasOne spec.blocks scripts.blocks
+
+-- no session is closed
+abbrev pub IsAnyOpen : Ran → Type 0
+IsAnyOpen ran = (s : ℕ) → closed ran.past s ≡ false
+
+-- the setup blocks that were given
+abbrev pub setup_part : Spec → Setup → List ℕ
+setup_part spec setups.Done = setup_blocks 0 spec.blocks
+setup_part spec (setups.Failed block) = up_to block (setup_blocks 0 spec.blocks)
+
+abbrev pub failed_block : Setup → Option ℕ
+failed_block setups.Done = None
+failed_block (setups.Failed block) = Some block
+
+-- the setup part of a run, from its start
+pub record SetupRan (spec : Spec) (old new : Ran) (setup : Setup) : Type 0 where
+  pub scripts : new.scripts ≡ old.scripts
+  pub driven : driver new.past ≡ map (given spec) (setup_part spec setup)
+  pub failed : failed_setup spec new.past ≡ failed_block setup
+  pub any_open : IsAnyOpen new
+
+-- the steps of a permutation, after a setup part that didn't fail
+pub record StepsRan (spec : Spec) (old new : Ran) (steps : List ℕ) : Type 0 where
+  pub scripts : new.scripts ≡ old.scripts
+  pub driven : driver new.past ≡ driver old.past ++ map (given spec) steps
+  pub failed : failed_setup spec new.past ≡ failed_setup spec old.past
+  pub any_open : IsAnyOpen new
+
+-- so many sessions from the first on were closed
+pub record SessionsClosed (old new : Ran) (first count : ℕ) : Type 0 where
+  pub scripts : new.scripts ≡ old.scripts
+  pub driven : driver new.past ≡ driver old.past ++ closes first count
+  pub failed : (spec : Spec) → failed_setup spec new.past ≡ failed_setup spec old.past
+  pub closed_are : (s : ℕ) → closed new.past s ≡ (closed old.past s || (nat_le first s && nat_lt s (first + count)))

@@ -1,0 +1,215 @@
+use super::*;
+use al_history::{Column, History, Level};
+use al_values::{ListOf, Txt};
+use std::test::Fail;
+
+fn make_block(alloc: Global, part: Part, name: &str, text: &str) -> Result<Block, NoMemory> {
+    let session = match part {
+        Part::Setup => 0,
+        Part::Step => 1,
+    };
+    Ok(Block {
+        part,
+        session,
+        name: Txt::new(alloc, name)?,
+        text: Txt::new(alloc, text)?,
+    })
+}
+
+// One session, two setup blocks and the permutation `add sel`.
+fn make_spec(alloc: Global, second: &str) -> Result<Spec, NoMemory> {
+    let add = "ALTER TABLE t ADD COLUMN b integer DEFAULT 5;";
+    let mut blocks = ListOf::new(alloc);
+    blocks.push(make_block(alloc, Part::Setup, "", "CREATE TABLE t (a integer)")?)?;
+    blocks.push(make_block(alloc, Part::Setup, "", second)?)?;
+    blocks.push(make_block(alloc, Part::Step, "add", add)?)?;
+    blocks.push(make_block(alloc, Part::Step, "sel", "SELECT * FROM t;")?)?;
+    let mut steps = ListOf::new(alloc);
+    steps.push(2)?;
+    steps.push(3)?;
+    let mut permutations = ListOf::new(alloc);
+    permutations.push(steps)?;
+    let mut sessions = ListOf::new(alloc);
+    sessions.push(Txt::new(alloc, "s1")?)?;
+    Ok(Spec {
+        sessions,
+        blocks,
+        permutations,
+    })
+}
+
+fn put(history: &mut History, entry: Entry) -> Result<(), NoMemory> {
+    history.reserve(1)?;
+    history.note(entry);
+    Ok(())
+}
+
+// A block is given, and its first statement looks.
+fn begin(history: &mut History, session: u32, block: u32) -> Result<u32, NoMemory> {
+    put(history, Entry::Give { session, block })?;
+    let xact = history.len();
+    let level = Level::ReadCommitted;
+    put(history, Entry::Start { session, level })?;
+    put(history, Entry::Look { xact })?;
+    Ok(xact)
+}
+
+// The last statement of a block is answered.
+fn finish(history: &mut History, session: u32, xact: u32, reply: Reply) -> Result<(), NoMemory> {
+    put(history, Entry::Done { session, reply })?;
+    put(history, Entry::Commit { xact })?;
+    put(history, Entry::End { session })
+}
+
+// The first setup block: the table `t`.
+fn create(alloc: Global, history: &mut History) -> Result<u32, NoMemory> {
+    let xact = begin(history, 0, 0)?;
+    let table = history.len();
+    let name = Txt::new(alloc, "t")?;
+    let mut shape = ListOf::new(alloc);
+    shape.push(Column {
+        name: Txt::new(alloc, "a")?,
+        default: Value::Null,
+    })?;
+    put(
+        history,
+        Entry::Make {
+            xact,
+            table,
+            name,
+            shape,
+        },
+    )?;
+    let tag = Tag::CreateTable;
+    finish(history, 0, xact, Reply::Tag { tag, count: 0 })?;
+    Ok(table)
+}
+
+fn insert(alloc: Global, history: &mut History, table: u32) -> Result<(), NoMemory> {
+    let xact = begin(history, 0, 1)?;
+    let mut row = ListOf::new(alloc);
+    row.push(Value::Int(1))?;
+    put(history, Entry::Add { xact, table, row })?;
+    let tag = Tag::Insert;
+    finish(history, 0, xact, Reply::Tag { tag, count: 1 })
+}
+
+fn alter(alloc: Global, history: &mut History, table: u32) -> Result<(), NoMemory> {
+    let xact = begin(history, 1, 2)?;
+    put(
+        history,
+        Entry::Alter {
+            xact,
+            table,
+            statement: 0,
+            rewritten: ListOf::new(alloc),
+        },
+    )?;
+    let tag = Tag::AlterTable;
+    finish(history, 1, xact, Reply::Tag { tag, count: 0 })
+}
+
+fn select(alloc: Global, history: &mut History) -> Result<(), NoMemory> {
+    let xact = begin(history, 1, 3)?;
+    let mut names = ListOf::new(alloc);
+    names.push(Txt::new(alloc, "a")?)?;
+    names.push(Txt::new(alloc, "b")?)?;
+    let mut row = ListOf::new(alloc);
+    row.push(Value::Int(1))?;
+    row.push(Value::Int(5))?;
+    let mut rows = ListOf::new(alloc);
+    rows.push(row)?;
+    let entry = history.len();
+    put(history, Entry::Read { xact, names, rows })?;
+    finish(history, 1, xact, Reply::Rows { entry })
+}
+
+fn print_run(alloc: Global, spec: &Spec, setup: Setup, history: History) -> Result<Txt, NoMemory> {
+    let mut runs = ListOf::new(alloc);
+    runs.push(Run {
+        permutation: 1,
+        setup,
+        history,
+    })?;
+    print(alloc, spec, &runs)
+}
+
+#[test]
+fn prints_a_run(rt: HostRuntime) -> Result<(), Fail> {
+    let alloc = rt.alloc();
+    let spec = make_spec(alloc, "INSERT INTO t VALUES (1)")?;
+    let mut history = History::new(alloc);
+    let table = create(alloc, &mut history)?;
+    insert(alloc, &mut history, table)?;
+    alter(alloc, &mut history, table)?;
+    select(alloc, &mut history)?;
+    put(&mut history, Entry::Close { session: 1 })?;
+    let text = print_run(alloc, &spec, Setup::Done, history)?;
+    let wanted = "Parsed test spec with 1 sessions\n\
+        \n\
+        starting permutation: add sel\n\
+        setup 1\n\
+        CREATE TABLE\n\
+        setup 2\n\
+        INSERT 0 1\n\
+        step add: ALTER TABLE t ADD COLUMN b integer DEFAULT 5;\n\
+        ALTER TABLE\n\
+        step sel: SELECT * FROM t;\n\
+        a|b\n\
+        1|5\n\
+        (1 row)\n";
+    assert_eq!(rt; text.as_str(), wanted);
+    Ok(())
+}
+
+#[test]
+fn prints_a_failed_setup(rt: HostRuntime) -> Result<(), Fail> {
+    let alloc = rt.alloc();
+    let spec = make_spec(alloc, "CREATE TABLE t (b integer)")?;
+    let mut history = History::new(alloc);
+    create(alloc, &mut history)?;
+    let xact = begin(&mut history, 0, 1)?;
+    let name = Txt::new(alloc, "t")?;
+    let cause = Cause::TwiceTable { name };
+    put(&mut history, Entry::Refuse { session: 0, cause })?;
+    put(&mut history, Entry::Abort { xact })?;
+    put(&mut history, Entry::End { session: 0 })?;
+    let text = print_run(alloc, &spec, Setup::Failed { block: 1 }, history)?;
+    let wanted = "Parsed test spec with 1 sessions\n\
+        \n\
+        starting permutation: add sel\n\
+        setup 1\n\
+        CREATE TABLE\n\
+        setup 2\n\
+        ERROR: 42P07: table \"t\" already exists\n\
+        setup failed\n";
+    assert_eq!(rt; text.as_str(), wanted);
+    Ok(())
+}
+
+fn cause_line(alloc: Global, cause: &Cause) -> Result<String, NoMemory> {
+    let mut text = String::new(alloc);
+    push_cause(&mut text, cause)?;
+    Ok(text)
+}
+
+#[test]
+fn prints_each_cause(rt: HostRuntime) -> Result<(), Fail> {
+    let alloc = rt.alloc();
+    let name = Txt::new(alloc, "t")?;
+    let missing = cause_line(alloc, &Cause::NoTable { name })?;
+    let name = Txt::new(alloc, "t")?;
+    let table = cause_line(alloc, &Cause::TwiceTable { name })?;
+    let name = Txt::new(alloc, "b")?;
+    let column = cause_line(alloc, &Cause::TwiceColumn { name })?;
+    let count = cause_line(alloc, &Cause::Count { want: 2, got: 3 })?;
+    for (line, wanted) in [
+        (missing.as_str(), "42P01: table \"t\" does not exist"),
+        (table.as_str(), "42P07: table \"t\" already exists"),
+        (column.as_str(), "42701: column \"b\" already exists"),
+        (count.as_str(), "42601: INSERT has 3 values for 2 columns"),
+    ] {
+        assert_eq!(rt; line, wanted);
+    }
+    Ok(())
+}
