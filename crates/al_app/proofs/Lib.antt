@@ -3,6 +3,7 @@ pub mod Step
 pub mod StoredLemmas
 pub mod AfterLemmas
 pub mod EngineLemmas
+pub mod RunLemmas
 pub mod FirstLexing
 pub mod FirstLoops
 pub mod FirstStatements

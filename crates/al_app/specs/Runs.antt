@@ -1,5 +1,5 @@
 -- What the driver did to the engine.
-use Rattle.std.specs.Prelude.{◌≡◌, ℕ, ◌+◌, ◌^◌, ◌<◌, ◌≤◌, Bool, false, List, [], ◌∷◌, ◌++◌, map, length, ◌||◌, ◌&&◌, nat_le, nat_lt, Option, Some, None}
+use Rattle.std.specs.Prelude.{◌≡◌, ℕ, take, ◌+◌, ◌^◌, ◌<◌, ◌≤◌, Bool, true, false, List, [], ◌∷◌, ◌++◌, map, length, ◌||◌, ◌&&◌, nat_le, nat_lt, Option, Some, None}
 use Rattle.al_history.specs.declared.run.Setup.{Setup}
 use Rattle.al_history.specs.declared.run.Setup.TheVariants as setups
 use Rattle.al_history.specs.declared.spec.Block.{Block}
@@ -7,7 +7,9 @@ use Rattle.al_history.specs.declared.spec.Spec.{Spec}
 use Rattle.al_history.specs.declared.statement.ScriptBlock.{ScriptBlock}
 use Rattle.al_history.specs.declared.statement.Scripts.{Scripts}
 use Rattle.al_history.specs.Hand.{closed}
-use Rattle.al_history.specs.Whole.{driver, setup_blocks, given, up_to, failed_setup, closes}
+use Rattle.al_history.specs.Whole.{driver, setup_blocks, given, up_to, failed_setup, closes, wanted}
+use Rattle.al_app.specs.declared.engine.steps.Ended.{Ended}
+use Rattle.al_app.specs.declared.engine.steps.Ended.TheVariants as ends
 use Rattle.al_app.specs.First.{EachWith}
 use Rattle.al_app.specs.FirstShape.{HasOne}
 use Rattle.al_app.specs.Ran.{Ran}
@@ -31,11 +33,21 @@ failed_block setups.Done = None
 failed_block (setups.Failed block) = Some block
 
 -- the setup part of a run, from its start
-pub record SetupRan (spec : Spec) (old new : Ran) (setup : Setup) : Type 0 where
-  pub scripts : new.scripts ≡ old.scripts
+pub record SetupRan (spec : Spec) (new : Ran) (setup : Setup) : Type 0 where
   pub driven : driver new.past ≡ map (given spec) (setup_part spec setup)
   pub failed : failed_setup spec new.past ≡ failed_block setup
   pub any_open : IsAnyOpen new
+
+-- the setup blocks among the first so many blocks have been given, and none was refused
+pub record SetupSoFar (spec : Spec) (new : Ran) (count : ℕ) : Type 0 where
+  pub driven : driver new.past ≡ map (given spec) (setup_blocks 0 (take count spec.blocks))
+  pub failed : failed_setup spec new.past ≡ None
+  pub any_open : IsAnyOpen new
+
+-- the setup part went on by the block of this number, or has failed there
+abbrev pub SetupGoesOn : Spec → Ran → ℕ → Ended → Type 0
+SetupGoesOn spec new number ends.Done = SetupSoFar spec new (number + 1)
+SetupGoesOn spec new number ends.Refused = SetupRan spec new (setups.Failed number)
 
 -- the steps of a permutation, after a setup part that didn't fail
 pub record StepsRan (spec : Spec) (old new : Ran) (steps : List ℕ) : Type 0 where
@@ -50,3 +62,9 @@ pub record SessionsClosed (old new : Ran) (first count : ℕ) : Type 0 where
   pub driven : driver new.past ≡ driver old.past ++ closes first count
   pub failed : (spec : Spec) → failed_setup spec new.past ≡ failed_setup spec old.past
   pub closed_are : (s : ℕ) → closed new.past s ≡ (closed old.past s || (nat_le first s && nat_lt s (first + count)))
+
+-- the run has come to its end: the driver did what is wanted, and every session is closed
+pub record IsEnded (spec : Spec) (new : Ran) (steps : List ℕ) (setup : Setup) : Type 0 where
+  pub driven : driver new.past ≡ wanted spec steps (failed_block setup)
+  pub failed : failed_setup spec new.past ≡ failed_block setup
+  pub all_closed : (s : ℕ) → s ≤ length spec.sessions → closed new.past s ≡ true

@@ -1,34 +1,56 @@
 //! The runs of a spec file: what the driver gives to the engine, and in which order.
-ghost use Rattle.std.specs.Prelude.{◌≡◌, ℕ, ◌+◌, ◌<◌, ◌≤◌, ◌∷◌, [], length, ◌-◌, IfOk, OnOk, false};
+ghost use Rattle.std.specs.Prelude.{◌≡◌, ℕ, ◌^◌, ◌+◌, ◌<◌, ◌≤◌, ◌∷◌, [], length, ◌-◌, IfOk, OnOk, false, slice_get, None};
 ghost use Rattle.std.specs.List.{AllByRecursion};
 ghost use Rattle.al_history.specs.Hand.{closed};
-ghost use Rattle.al_history.specs.Whole.{AreRuns, IsRun};
+ghost use Rattle.al_history.specs.Whole.{AreRuns, IsRun, failed_setup};
 ghost use Rattle.al_app.specs.Ran.{Ran, Rests};
 ghost use Rattle.al_app.specs.FirstShape.{IsStepAt};
-ghost use Rattle.al_app.specs.Runs.{IsRunnable, SetupRan, StepsRan, SessionsClosed, IsAnyOpen};
+ghost use Rattle.al_app.specs.Runs.{IsRunnable, SetupRan, SetupSoFar, SetupGoesOn, StepsRan, SessionsClosed, IsAnyOpen, IsEnded};
 
 use crate::engine::{Ended, Engine, Given};
-use al_history::{Part, Run, RunList, Scripts, Setup, Spec};
+use al_history::{Block, Part, Run, RunList, Scripts, Setup, Spec};
 use al_values::{ListOf, NoMemory};
 use std::alloc::Global;
+
+/// Gives the block of this number, if it is one of the setup part.
+fn run_setup_block(alloc: Global, engine: &mut Engine, spec: &Spec, number: u32, block: &Block) -> Result<Ended, NoMemory>
+    requires runnable { IsRunnable spec.now engine.old.scripts }
+    requires there { slice_get spec.now.blocks number ≡ Some block.now }
+    requires so_far { SetupSoFar spec.now engine.old number }
+    requires rests { Rests engine.old }
+    ensures ran { IfOk result (λ ended. SetupGoesOn spec.now engine.new number ended) }
+    ensures scripts { engine.new.scripts ≡ engine.old.scripts }
+    ensures rests { Rests engine.new }
+{
+    match block.part {
+        Part::Step => Ok(Ended::Done),
+        Part::Setup => {
+            let session = block.session;
+            engine.step(
+                alloc,
+                Given {
+                    session,
+                    block: number,
+                },
+            )
+        }
+    }
+}
 
 /// Gives the setup blocks in the file's order, up to the first that is refused.
 fn run_setup(alloc: Global, engine: &mut Engine, spec: &Spec) -> Result<Setup, NoMemory>
     requires runnable { IsRunnable spec.now engine.old.scripts }
     requires opened { engine.old.past ≡ [] }
     requires rests { Rests engine.old }
-    ensures ran { IfOk result (λ setup. SetupRan spec.now engine.old engine.new setup) }
+    ensures ran { IfOk result (λ setup. SetupRan spec.now engine.new setup) }
+    ensures scripts { OnOk result (engine.new.scripts ≡ engine.old.scripts) }
     ensures rests { Rests engine.new }
 {
     for (number, block) in spec.blocks.as_slice().iter().enumerate() {
-        if block.part == Part::Setup {
-            let given = Given {
-                session: block.session,
-                block: number as u32,
-            };
-            if engine.step(alloc, given)? == Ended::Refused {
-                return Ok(Setup::Failed { block: given.block });
-            }
+        let number = number as u32;
+        match run_setup_block(alloc, engine, spec, number, block)? {
+            Ended::Done => {}
+            Ended::Refused => return Ok(Setup::Failed { block: number }),
         }
     }
     Ok(Setup::Done)
@@ -38,6 +60,7 @@ fn run_setup(alloc: Global, engine: &mut Engine, spec: &Spec) -> Result<Setup, N
 fn run_steps(alloc: Global, engine: &mut Engine, spec: &Spec, steps: &[u32]) -> Result<(), NoMemory>
     requires runnable { IsRunnable spec.now engine.old.scripts }
     requires are_steps { AllByRecursion (IsStepAt spec.now.blocks) steps.now }
+    requires none_failed { failed_setup spec.now engine.old.past ≡ None }
     requires any_open { IsAnyOpen engine.old }
     requires rests { Rests engine.old }
     ensures ran { OnOk result (StepsRan spec.now engine.old engine.new steps.now) }
@@ -60,7 +83,7 @@ fn run_steps(alloc: Global, engine: &mut Engine, spec: &Spec, steps: &[u32]) -> 
 fn close_sessions(engine: &mut Engine, first: u32, end: u32) -> Result<(), NoMemory>
     requires known { end ≤ engine.old.scripts.sessions }
     requires in_order { first ≤ end }
-    requires still_open { (s : ℕ) → first ≤ s → closed engine.old.past s ≡ false }
+    requires still_open { (s : ℕ) → first ≤ s → s < end → closed engine.old.past s ≡ false }
     requires rests { Rests engine.old }
     ensures ran { OnOk result (SessionsClosed engine.old engine.new first (end - first)) }
     ensures rests { Rests engine.new }
@@ -69,4 +92,46 @@ fn close_sessions(engine: &mut Engine, first: u32, end: u32) -> Result<(), NoMem
         engine.close_session(session)?;
     }
     Ok(())
+}
+
+/// Ends a run whose setup part ended so: the steps and then the closes, the control session's last, or, where the setup
+/// part failed, all closes in ascending order.
+fn finish(alloc: Global, engine: &mut Engine, spec: &Spec, setup: Setup, steps: &[u32]) -> Result<(), NoMemory>
+    requires runnable { IsRunnable spec.now engine.old.scripts }
+    requires sessions { engine.old.scripts.sessions ≡ length spec.now.sessions + 1 }
+    requires countable { length spec.now.sessions + 1 < 2 ^ 32 }
+    requires are_steps { AllByRecursion (IsStepAt spec.now.blocks) steps.now }
+    requires set_up { SetupRan spec.now engine.old setup }
+    requires rests { Rests engine.old }
+    ensures ran { OnOk result (IsEnded spec.now engine.new steps.now setup) }
+    ensures scripts { OnOk result (engine.new.scripts ≡ engine.old.scripts) }
+    ensures rests { Rests engine.new }
+{
+    let end = spec.sessions.len() as u32 + 1;
+    match setup {
+        Setup::Failed { .. } => close_sessions(engine, 0, end),
+        Setup::Done => {
+            run_steps(alloc, engine, spec, steps)?;
+            close_sessions(engine, 1, end)?;
+            close_sessions(engine, 0, 1)
+        }
+    }
+}
+
+/// Runs one permutation from an empty database.
+pub fn run_permutation(alloc: Global, spec: &Spec, scripts: Scripts, number: u32, steps: &[u32]) -> Result<Run, NoMemory>
+    requires runnable { IsRunnable spec.now scripts }
+    requires sessions { scripts.sessions ≡ length spec.now.sessions + 1 }
+    requires countable { length spec.now.sessions + 1 < 2 ^ 32 }
+    requires are_steps { AllByRecursion (IsStepAt spec.now.blocks) steps.now }
+    ensures { IfOk result (λ run. IsRun spec.now scripts number steps.now run) }
+{
+    let mut engine = Engine::open(alloc, scripts);
+    let setup = run_setup(alloc, &mut engine, spec)?;
+    finish(alloc, &mut engine, spec, setup, steps)?;
+    Ok(Run {
+        permutation: number,
+        setup,
+        history: engine.close(),
+    })
 }
