@@ -1,7 +1,7 @@
 -- The two laws of files: what is read is in the grammar, and what is in the grammar is read.
-use Rattle.std.proofs.Common.{◌≡◌, ℕ, zero, suc, ◌+◌, ◌<◌, ◌≤◌, Bool, true, false, not, cond, eqb, List, [], ◌∷◌, ◌++◌, length, map, Option, Some, None, refl, sym, ap, subst, ◌∙◌, inl, inr, append_assoc, arith}
+use Rattle.std.proofs.Common.{◌≡◌, ℕ, suc, ◌+◌, ◌<◌, ◌≤◌, Bool, true, false, not, cond, List, [], ◌∷◌, ◌++◌, length, map, Option, Some, None, refl, sym, ap, subst, ◌∙◌, append_assoc, arith}
 use Rattle.std.specs.Prelude.{◌||◌, ◌&&◌, position, is_some, nat_lt, nat_le}
-use Rattle.std.specs.List.{flat_map, list_any, prefix_len, position_or_len}
+use Rattle.std.specs.List.{flat_map, list_any, position_or_len}
 use Rattle.std.specs.Str.{bytes_eq}
 use Rattle.std.proofs.lemmas.Bool.{ltb-true, leb-true, lt-ltb, le-leb}
 use Rattle.std.proofs.lemmas.Bool.Decides.{nat_tests}
@@ -13,10 +13,10 @@ use Rattle.al_history.specs.declared.statement.ScriptBlock.{ScriptBlock}
 use Rattle.al_history.specs.declared.statement.Scripts.{Scripts}
 use Rattle.al_app.specs.declared.first.outside.Token.{Token}
 use Rattle.al_app.specs.declared.first.outside.Token.TheVariants as tokens
-use Rattle.al_app.specs.FirstSteps.{◌>>=◌}
 use Rattle.al_app.specs.FirstOutside.{tokens_of}
-use Rattle.al_app.specs.First.{Step, Parts, setup, step, file, are_new, setup_block, step_block, blocks, is_step, EachWith, IsScript, IsStatement, IsFirst}
+use Rattle.al_app.specs.First.{Step, Parts, setup, step, file, are_new, setup_block, step_block, blocks, is_step, EachWith, IsScript, IsFirst}
 use Rattle.al_app.specs.FirstReading.{each_from, setups_from, session_at, steps_from, permutation_at, number_of, statement_of, script_of, is_bounded, spec_of, first_of}
+use Rattle.al_app.proofs.FirstPlaces.{no_step_yet}
 use Rattle.al_app.proofs.FirstStatements.{bind_some, statement_takes, statement_again}
 
 -- ---- items
@@ -334,3 +334,9 @@ first_again bytes spec scripts h =
     let f : IsFile (file h.parts) spec = record { parts = h.parts; spelled = refl; a_step = h.a_step; a_name = h.a_name; distinct = h.distinct; few = h.few; sessions = h.sessions; all = h.blocks; numbers = h.numbers; permutations = h.permutations; numbered = h.numbered } in
     first_by bytes (file h.parts) spec scripts.blocks (le-leb (length bytes) 65536 h.short) h.spelled (spec_again (file h.parts) spec f) (each_again script_of IsScript script_again [] spec.blocks scripts.blocks h.scripts_are)
     ∙ ap (λ (s : Scripts). Some (spec, s)) (same_scripts (record { sessions = 2; blocks = scripts.blocks }) scripts (sym h.two) refl)
+
+pub setups_no_step : (ts : List Token) (blocks : List Block) (rest : List Token) → Some (setups_from [] ts) ≡ Some (blocks, rest) → (name : List ℕ) → position (is_step name) blocks ≡ None
+setups_no_step ts blocks rest e name =
+    let s = setups_take [] ts in
+    let is : blocks ≡ map setup_block s.texts = sym (ap (λ (y : List Block × List Token). y.0) (same_Some (setups_from [] ts) (blocks, rest) e)) ∙ s.all in
+    rw is (no_step_yet name s.texts)

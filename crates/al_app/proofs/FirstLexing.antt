@@ -1,13 +1,9 @@
 -- Bytes as tokens: what the loops keep.
-use Rattle.std.proofs.Common.{◌≡◌, ℕ, suc, ◌+◌, ◌<◌, Bool, true, false, cond, List, [], ◌∷◌, ◌++◌, length, get_or, drop, reverse, Option, Some, None, Result, Ok, Err, refl, sym, ap, subst, ◌∙◌, append_assoc, add-one, drop-cons, arith}
+use Rattle.std.proofs.Common.{◌≡◌, ℕ, ◌+◌, ◌<◌, Bool, true, false, List, [], ◌∷◌, ◌++◌, length, get_or, drop, Option, Some, None, refl, sym, ap, ◌∙◌, append_assoc, add-one, drop-cons}
 use Rattle.std.specs.Option.{option_to_list}
 use Rattle.std.specs.Str.{IsUtf8, is_utf8}
 use Rattle.std.proofs.lemmas.Str.{IsUtf8-from_is_utf8, is_utf8-from_IsUtf8}
-use Rattle.std.proofs.lemmas.List.{append-nil}
-use Rattle.al_values.specs.declared.cant.Cant.{Cant}
-use Rattle.al_values.specs.declared.cant.Cant.TheVariants as cants
-use Rattle.al_history.specs.declared.spec.SpecFault.{SpecFault}
-use Rattle.al_app.specs.FirstSteps.{◌>>=◌, Machine, run, Gives}
+use Rattle.al_app.specs.FirstSteps.{◌>>=◌, Machine, run}
 use Rattle.al_app.specs.FirstOutside.{utf8}
 
 pub utf8-yes : (bs : List ℕ) → IsUtf8 bs → utf8 bs ≡ Some bs

@@ -1,6 +1,6 @@
 -- What the loops of the reader keep.
-use Rattle.std.proofs.Common.{◌≡◌, ℕ, zero, suc, ◌+◌, ◌-◌, ◌<◌, ◌≤◌, Bool, true, false, cond, List, [], ◌∷◌, ◌++◌, length, get_or, drop, Option, Some, None, Result, Ok, Err, refl, sym, ap, ◌∙◌, le-leb, add-one, drop-cons, arith}
-use Rattle.std.specs.Prelude.{nat_le, not, position, is_some}
+use Rattle.std.proofs.Common.{◌≡◌, ℕ, zero, suc, ◌+◌, ◌-◌, ◌<◌, ◌≤◌, Bool, true, false, cond, List, [], ◌∷◌, ◌++◌, length, get_or, drop, Option, Some, None, refl, sym, ap, ◌∙◌, le-leb, add-one, drop-cons, arith}
+use Rattle.std.specs.Prelude.{nat_le, position, is_some}
 use Rattle.std.proofs.lemmas.Option.{some_pair_parts}
 use Rattle.std.proofs.Math.ListN.{drop_of_length-le}
 use Rattle.al_history.specs.declared.spec.Block.{Block}
@@ -12,7 +12,7 @@ use Rattle.al_values.specs.declared.cant.Cant.{Cant}
 use Rattle.al_values.specs.declared.cant.Cant.TheVariants as cants
 use Rattle.al_history.specs.declared.spec.SpecFault.{SpecFault}
 use Rattle.al_app.specs.declared.first.inside.Lexeme.{Lexeme}
-use Rattle.al_app.specs.FirstSteps.{◌>>=◌, Fails}
+use Rattle.al_app.specs.FirstSteps.{Fails}
 use Rattle.al_app.specs.First.{is_name, is_reserved, Step, setup_block, step_block, is_step}
 use Rattle.al_app.specs.FirstReading.{comma_at, listed_at, each_from, setup_at, setups_from, step_at, steps_from}
 

@@ -1,6 +1,6 @@
 -- What the public call says of what was read.
-use Rattle.std.proofs.Common.{◌≡◌, ℕ, zero, suc, ◌+◌, ◌<◌, ◌≤◌, Bool, true, false, not, cond, List, [], ◌∷◌, ◌++◌, length, map, Option, Some, None, Result, Ok, Err, refl, sym, ap, subst, ◌∙◌, arith}
-use Rattle.std.specs.Prelude.{position, nat_lt, slice_get, IfOk, ◌&&◌}
+use Rattle.std.proofs.Common.{◌≡◌, ℕ, zero, suc, ◌+◌, Bool, true, false, not, cond, List, [], ◌∷◌, ◌++◌, length, map, Option, Some, Result, Ok, Err, refl, sym, ap, subst, arith}
+use Rattle.std.specs.Prelude.{position, nat_lt, slice_get, IfOk}
 use Rattle.std.specs.List.{position_or_len, AllByRecursion}
 use Rattle.std.specs.Str.{bytes_eq}
 use Rattle.std.proofs.lemmas.Bool.{ltb-true, lt-ltb}
@@ -17,7 +17,7 @@ use Rattle.al_history.specs.declared.spec.Spec.{Spec}
 use Rattle.al_history.specs.declared.statement.ScriptBlock.{ScriptBlock}
 use Rattle.al_history.specs.declared.statement.Scripts.{Scripts}
 use Rattle.al_app.specs.FirstSteps.{Gives}
-use Rattle.al_app.specs.First.{Step, Parts, setup_block, step_block, blocks, is_step_part, is_step, EachWith, IsScript, IsFirst}
+use Rattle.al_app.specs.First.{Step, Parts, setup_block, step_block, is_step_part, is_step, EachWith, IsScript, IsFirst}
 use Rattle.al_app.specs.FirstShape.{IsSetup, IsStep, IsStepAt, HasOne, IsFirstShape}
 use Rattle.al_app.specs.FirstReading.{first_of}
 use Rattle.al_app.proofs.FirstFiles.{both, first_takes, first_again}

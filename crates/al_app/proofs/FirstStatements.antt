@@ -1,12 +1,11 @@
 -- The two laws of statements: what is read is in the grammar, and what is in the grammar is read.
-use Rattle.std.proofs.Common.{◌≡◌, ℕ, zero, suc, ◌+◌, ◌<◌, ◌≤◌, ℤ, Bool, true, false, cond, eqb, List, [], ◌∷◌, ◌++◌, length, Option, Some, None, refl, sym, ap, subst, ◌∙◌, inl, inr, append_assoc, arith}
-use Rattle.std.specs.Prelude.{codes, ◌⊎◌}
+use Rattle.std.proofs.Common.{◌≡◌, ℕ, zero, suc, ◌<◌, ◌≤◌, Bool, true, false, cond, eqb, List, [], ◌∷◌, ◌++◌, length, Option, Some, None, refl, sym, ap, subst, ◌∙◌, inl, inr, append_assoc, arith}
+use Rattle.std.specs.Prelude.{codes}
 use Rattle.std.specs.List.{AllByRecursion}
 use Rattle.std.specs.Str.{bytes_eq}
 use Rattle.std.proofs.lemmas.Bool.{eqb-true, eq-eqb}
 use Rattle.std.proofs.lemmas.Slice.Eq.{bytes_eq-Decides}
 use Rattle.std.proofs.lemmas.Option.{same_Some, cond_some}
-use Rattle.std.proofs.lemmas.List.{append-nil}
 use Rattle.al_values.specs.declared.scalar.Value.{Value}
 use Rattle.al_values.specs.declared.scalar.Value.TheVariants as values
 use Rattle.al_history.specs.declared.statement.Column.{Column}
@@ -16,7 +15,7 @@ use Rattle.al_app.specs.declared.first.inside.Lexeme.{Lexeme}
 use Rattle.al_app.specs.declared.first.inside.Lexeme.TheVariants as lexemes
 use Rattle.al_app.specs.FirstSteps.{◌>>=◌}
 use Rattle.al_app.specs.FirstInside.{lexemes_of}
-use Rattle.al_app.specs.First.{is_name, IsName, listed, one_to_ten, column, value, default, statement, IsWell, IsEnd, IsStatement}
+use Rattle.al_app.specs.First.{is_name, IsName, listed, IsOneToTen, column, value, default, statement, IsWell, IsEnd, IsStatement}
 use Rattle.al_app.specs.FirstReading.{word_at, sign_at, name_at, column_at, value_at, comma_at, listed_at, number_at, default_at, create_at, insert_at, select_at, alter_at, starts, one_at, is_end, statement_of}
 
 -- ---- single steps, before what comes after
@@ -194,7 +193,7 @@ list_again {A} item spell Fits law (suc n) front (x ∷ z ∷ new) rest some few
     ap (listed_at item (suc n) front) e ∙ rw (law.again x (lexemes.Sign 44 ∷ (listed spell (z ∷ new) ++ rest)) fits.0, comma_again (listed spell (z ∷ new) ++ rest)) (m ∙ ap (λ (xs : List A). Some (xs, rest)) (append_assoc front (x ∷ []) (z ∷ new)))
 
 list_then : {A B : Type 0} (item : List Lexeme → Option (A × List Lexeme)) (spell : A → List Lexeme) (Fits : A → Type 0) (law : Takes item spell Fits) (ls : List Lexeme) (k : List A × List Lexeme → Option B) (y : B) → (listed_at item 10 [] ls >>= k) ≡ Some y
-    → (xs : List A) × (rest : List Lexeme) × (ls ≡ listed spell xs ++ rest) × one_to_ten xs × AllByRecursion Fits xs × (k (xs, rest) ≡ Some y)
+    → (xs : List A) × (rest : List Lexeme) × (ls ≡ listed spell xs ++ rest) × IsOneToTen xs × AllByRecursion Fits xs × (k (xs, rest) ≡ Some y)
 list_then {A} item spell Fits law ls k y e =
     let a = bind_some (listed_at item 10 [] ls) k y e in
     let l = list_takes item spell Fits law 10 [] ls a.0 a.1 in
@@ -212,6 +211,9 @@ record Took (ls : List Lexeme) (y : Statement × List Lexeme) : Type 0 where
   pub spelled : ls ≡ statement y.0 ++ y.1
   pub is_well : IsWell y.0
 
+took_as : (ls : List Lexeme) (made y : Statement × List Lexeme) → Some made ≡ Some y → Took ls made → Took ls y
+took_as ls made y e t = subst (λ (z : Statement × List Lexeme). Took ls z) (same_Some made y e) t
+
 create_takes : (ls : List Lexeme) (y : Statement × List Lexeme) → create_at ls ≡ Some y → Took ls y
 unfolding create_at
 create_takes ls y e =
@@ -222,7 +224,7 @@ create_takes ls y e =
     let l = list_then column_at column IsName column_law c.0 _ y c.2 in
     let made : Statement × List Lexeme = (statements.CreateTable t.0 l.0, l.1) in
     let spelled : ls ≡ statement made.0 ++ made.1 = a.1 ∙ behind (lexemes.Word (codes "create")) (b.1 ∙ behind (lexemes.Word (codes "table")) (t.2 ∙ behind (lexemes.Word t.0) (c.1 ∙ behind (lexemes.Sign 40) l.2))) in
-    subst (λ (z : Statement × List Lexeme). Took ls z) (same_Some made y l.5) (record { spelled = spelled; is_well = (t.3, l.4, l.3) })
+    took_as ls made y l.5 (record { spelled = spelled; is_well = (t.3, l.4, l.3) })
 
 insert_takes : (ls : List Lexeme) (y : Statement × List Lexeme) → insert_at ls ≡ Some y → Took ls y
 unfolding insert_at
@@ -235,7 +237,7 @@ insert_takes ls y e =
     let l = list_then value_at value IsAny value_law c.0 _ y c.2 in
     let made : Statement × List Lexeme = (statements.Insert t.0 l.0, l.1) in
     let spelled : ls ≡ statement made.0 ++ made.1 = a.1 ∙ behind (lexemes.Word (codes "insert")) (b.1 ∙ behind (lexemes.Word (codes "into")) (t.2 ∙ behind (lexemes.Word t.0) (v.1 ∙ behind (lexemes.Word (codes "values")) (c.1 ∙ behind (lexemes.Sign 40) l.2)))) in
-    subst (λ (z : Statement × List Lexeme). Took ls z) (same_Some made y l.5) (record { spelled = spelled; is_well = (t.3, l.3) })
+    took_as ls made y l.5 (record { spelled = spelled; is_well = (t.3, l.3) })
 
 select_takes : (ls : List Lexeme) (y : Statement × List Lexeme) → select_at ls ≡ Some y → Took ls y
 unfolding select_at
@@ -246,7 +248,7 @@ select_takes ls y e =
     let t = name_then c.0 _ y c.2 in
     let made : Statement × List Lexeme = (statements.Select t.0, t.1) in
     let spelled : ls ≡ statement made.0 ++ made.1 = a.1 ∙ behind (lexemes.Word (codes "select")) (b.1 ∙ behind (lexemes.Sign 42) (c.1 ∙ behind (lexemes.Word (codes "from")) t.2)) in
-    subst (λ (z : Statement × List Lexeme). Took ls z) (same_Some made y t.4) (record { spelled = spelled; is_well = t.3 })
+    took_as ls made y t.4 (record { spelled = spelled; is_well = t.3 })
 
 number_takes : (ls : List Lexeme) (y : Value × List Lexeme) → number_at ls ≡ Some y → lexemes.Word (codes "default") ∷ ls ≡ default y.0 ++ y.1
 unfolding number_at
@@ -277,7 +279,7 @@ alter_takes ls y e =
     let f = bind_some (default_at n.0.1) _ y n.2 in
     let made : Statement × List Lexeme = (statements.AddColumn t.0 (record { name = n.0.0; default = f.0.0 }), f.0.1) in
     let spelled : ls ≡ statement made.0 ++ made.1 = a.1 ∙ behind (lexemes.Word (codes "alter")) (b.1 ∙ behind (lexemes.Word (codes "table")) (t.2 ∙ behind (lexemes.Word t.0) (c.1 ∙ behind (lexemes.Word (codes "add")) (d.1 ∙ behind (lexemes.Word (codes "column")) (m.0 ∙ behind (lexemes.Word n.0.0) (behind (lexemes.Word (codes "integer")) (default_takes n.0.1 f.0 f.1))))))) in
-    subst (λ (z : Statement × List Lexeme). Took ls z) (same_Some made y f.2) (record { spelled = spelled; is_well = (t.3, m.1) })
+    took_as ls made y f.2 (record { spelled = spelled; is_well = (t.3, m.1) })
 
 one_by : (ls : List Lexeme) (y : Statement × List Lexeme) (a b c : Bool) → cond a (create_at ls) (cond b (insert_at ls) (cond c (select_at ls) (alter_at ls))) ≡ Some y → Took ls y
 one_by ls y true b c e = create_takes ls y e

@@ -6,8 +6,10 @@ pub mod EngineLemmas
 pub mod RunLemmas
 pub mod FirstLexing
 pub mod FirstLoops
+pub mod FirstPlaces
 pub mod FirstStatements
 pub mod FirstFiles
 pub mod FirstShapes
 pub mod ReportLemmas
+pub mod TopLemmas
 mod ReportVectors

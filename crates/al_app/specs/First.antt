@@ -1,7 +1,10 @@
 -- The first form of spec files, as a grammar (src/test/isolation/README; CREATE TABLE, INSERT, SELECT, ALTER TABLE):
 --   first := { "setup" block } "session" name step { step } "permutation" name { name }
 --   step  := "step" name block
-use Rattle.std.specs.Prelude.{◌≡◌, ℕ, ◌+◌, ◌<◌, ◌≤◌, ℤ, Bool, true, false, not, ◌&&◌, ◌||◌, List, [], ◌∷◌, ◌++◌, length, map, Option, Some, None, nat_le, position, codes, ◌⊎◌}
+--   stmt  := one [ ";" ], the text of a block
+--   one   := CREATE TABLE name "(" name INTEGER { "," name INTEGER } ")" | INSERT INTO name VALUES "(" value { "," value } ")"
+--          | SELECT "*" FROM name | ALTER TABLE name ADD COLUMN name INTEGER [ DEFAULT digits ]
+use Rattle.std.specs.Prelude.{◌≡◌, ℕ, ◌+◌, ◌<◌, ◌≤◌, Bool, true, false, not, ◌&&◌, List, [], ◌∷◌, ◌++◌, length, map, Some, nat_le, position, codes, ◌⊎◌}
 use Rattle.std.specs.List.{flat_map, list_any, AllByRecursion}
 use Rattle.std.specs.Str.{bytes_eq, is_utf8}
 use Rattle.al_values.specs.declared.scalar.Value.{Value}
@@ -10,7 +13,6 @@ use Rattle.al_history.specs.declared.spec.Part.{Part}
 use Rattle.al_history.specs.declared.spec.Part.TheVariants as parts
 use Rattle.al_history.specs.declared.spec.Block.{Block}
 use Rattle.al_history.specs.declared.spec.Spec.{Spec}
-use Rattle.al_history.specs.declared.statement.Column.{Column}
 use Rattle.al_history.specs.declared.statement.Statement.{Statement}
 use Rattle.al_history.specs.declared.statement.Statement.TheVariants as statements
 use Rattle.al_history.specs.declared.statement.ScriptBlock.{ScriptBlock}
@@ -48,8 +50,8 @@ listed item [] = lexemes.Sign 41 ∷ []
 listed item (x ∷ []) = item x ++ lexemes.Sign 41 ∷ []
 listed item (x ∷ y ∷ more) = item x ++ lexemes.Sign 44 ∷ listed item (y ∷ more)
 
-abbrev pub one_to_ten : {A : Type 0} → List A → Type 0
-one_to_ten xs = (0 < length xs) × (length xs ≤ 10)
+abbrev pub IsOneToTen : {A : Type 0} → List A → Type 0
+IsOneToTen xs = (0 < length xs) × (length xs ≤ 10)
 
 -- name INTEGER
 abbrev pub column : List ℕ → List Lexeme
@@ -65,6 +67,7 @@ abbrev pub default : Value → List Lexeme
 default (values.Int n) = lexemes.Word (codes "default") ∷ lexemes.Number n ∷ []
 default values.Null = []
 
+-- the lexemes of a statement, one line for each kind
 abbrev pub statement : Statement → List Lexeme
 statement (statements.CreateTable table columns) =
     lexemes.Word (codes "create") ∷ lexemes.Word (codes "table") ∷ lexemes.Word table ∷ lexemes.Sign 40 ∷ listed column columns
@@ -78,8 +81,8 @@ statement (statements.AddColumn table added) =
 
 -- its names are names, and its lists aren't too long
 abbrev pub IsWell : Statement → Type 0
-IsWell (statements.CreateTable table columns) = IsName table × AllByRecursion IsName columns × one_to_ten columns
-IsWell (statements.Insert table values) = IsName table × one_to_ten values
+IsWell (statements.CreateTable table columns) = IsName table × AllByRecursion IsName columns × IsOneToTen columns
+IsWell (statements.Insert table values) = IsName table × IsOneToTen values
 IsWell (statements.Select table) = IsName table
 IsWell (statements.AddColumn table added) = IsName table × IsName added.name
 
@@ -110,9 +113,11 @@ pub record Parts : Type 0 where
 abbrev pub setup : List ℕ → List Token
 setup text = tokens.Setup ∷ tokens.Block text ∷ []
 
+-- "step" name block
 abbrev pub step : Step → List Token
 step s = tokens.Step ∷ tokens.Name s.name ∷ tokens.Block s.text ∷ []
 
+-- { "setup" block } "session" name step { step } "permutation" name { name }
 abbrev pub file : Parts → List Token
 file p = flat_map setup p.setups ++ tokens.Session ∷ tokens.Name p.session ∷ (flat_map step p.steps ++ tokens.Permutation ∷ map tokens.Name p.named)
 
@@ -131,11 +136,11 @@ step_block s = record { part = parts.Step; session = 1; name = s.name; text = s.
 abbrev pub blocks : Parts → List Block
 blocks p = map setup_block p.setups ++ map step_block p.steps
 
--- the number of the step that has a name
 abbrev pub is_step_part : Part → Bool
 is_step_part parts.Setup = false
 is_step_part parts.Step = true
 
+-- whether a block is the step of a name
 abbrev pub is_step : List ℕ → Block → Bool
 is_step name block = is_step_part block.part && bytes_eq block.name name
 
@@ -150,6 +155,7 @@ EachWith R (x ∷ xs) (y ∷ ys) = R x y × EachWith R xs ys
 abbrev pub IsScript : Block → ScriptBlock → Type 0
 IsScript block script = (one : Statement) × IsStatement block.text one × (script ≡ record { session = block.session; script = one ∷ [] })
 
+-- the bytes spell these parts, and the values are what the parts mean
 pub record IsFirst (bytes : List ℕ) (spec : Spec) (scripts : Scripts) : Type 0 where
   pub parts : Parts
   pub short : length bytes ≤ 65536

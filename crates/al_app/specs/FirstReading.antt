@@ -1,6 +1,9 @@
 -- Reading the first form from left to right.
 use Rattle.std.specs.Prelude.{◌≡◌, ℕ, zero, suc, ◌+◌, Bool, true, false, List, [], ◌∷◌, ◌++◌, length, Option, Some, None, if◌then◌else◌, nat_le, nat_lt, ◌==◌, ◌&&◌, position, is_some, codes}
 use Rattle.std.specs.Str.{bytes_eq}
+use Rattle.std.specs.Global.{Global}
+use Rattle.std.specs.declared.string.String.{String}
+use Rattle.std.specs.BTreeMap.{BTreeMap, get_by_text}
 use Rattle.al_values.specs.declared.scalar.Value.{Value}
 use Rattle.al_values.specs.declared.scalar.Value.TheVariants as values
 use Rattle.al_history.specs.declared.spec.Block.{Block}
@@ -205,3 +208,7 @@ first_of bytes = do
   spec ← spec_of ts
   scripts ← each_from script_of [] spec.blocks
   Some (spec, record { sessions = 2; blocks = scripts })
+
+-- a map that has the number of each step at its name
+abbrev pub HasPlaces : BTreeMap (String Global) ℕ → List Block → Type 0
+HasPlaces places blocks = (name : List ℕ) → get_by_text places name ≡ position (is_step name) blocks

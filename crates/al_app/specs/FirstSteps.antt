@@ -1,5 +1,5 @@
 -- Steps of reading that may find that a text isn't of the form.
-use Rattle.std.specs.Prelude.{◌≡◌, ℕ, Bool, List, [], ◌∷◌, ◌++◌, Option, Some, None, Result, Ok, Err}
+use Rattle.std.specs.Prelude.{◌≡◌, ℕ, List, [], ◌∷◌, ◌++◌, Option, Some, None, Result, Ok, Err}
 use Rattle.std.specs.Option.{option_and_then, option_to_list}
 use Rattle.al_values.specs.declared.cant.Cant.{Cant}
 use Rattle.al_values.specs.declared.cant.Cant.TheVariants as cants

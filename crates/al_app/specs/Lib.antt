@@ -12,3 +12,6 @@ pub mod First
 pub mod FirstShape
 pub mod FirstReading
 pub mod Report
+pub mod Numbers
+pub mod Answers
+pub mod Top

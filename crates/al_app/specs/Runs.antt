@@ -14,9 +14,8 @@ use Rattle.al_app.specs.First.{EachWith}
 use Rattle.al_app.specs.FirstShape.{HasOne}
 use Rattle.al_app.specs.Ran.{Ran}
 
--- each block has its one statement, and there are fewer blocks than numbers
+-- each block has its one statement
 pub record IsRunnable (spec : Spec) (scripts : Scripts) : Type 0 where
-  pub few : length spec.blocks < 2 ^ 32
   pub each : EachWith HasOne spec.blocks scripts.blocks
 
 -- no session is closed

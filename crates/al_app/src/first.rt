@@ -21,8 +21,8 @@ use std::alloc::Global;
 #[cfg(test)]
 mod tests;
 
-/// The spec file that bytes spell, of the first form, and the statements of its blocks. NotYet comes exactly where the
-/// bytes aren't of that form.
+/// The spec file that bytes spell, of the first form, and the statements of its blocks (src/test/isolation/README).
+/// NotYet comes exactly where the bytes aren't of that form, NoMemory where no memory was to be had.
 pub fn read_first(alloc: Global, bytes: &[u8]) -> Result<(Spec, Scripts), Cant<SpecFault>>
     ensures found { IfOk result (λ v. IsFirst bytes.now v.0 v.1) }
     ensures only { (spec : Spec) (scripts : Scripts) → IsFirst bytes.now spec scripts → GivesUnlessNoMemory result (Ok (spec, scripts)) }

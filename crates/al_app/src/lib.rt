@@ -1,7 +1,16 @@
 //! The top calls of `alterlive`: a spec file is read, its permutations are run, and the report is written.
 #![tactic(auto)]
 
+mod answers;
+mod counts;
 mod engine;
 mod first;
 mod report;
 mod runs;
+mod status;
+mod top;
+
+pub use answers::{answer, answer_alone};
+pub use first::read_first;
+pub use report::print;
+pub use status::{Answer, Status};

@@ -7,6 +7,7 @@ ghost use Rattle.al_app.specs.Ran.{Ran, Rests};
 ghost use Rattle.al_app.specs.FirstShape.{IsStepAt};
 ghost use Rattle.al_app.specs.Runs.{IsRunnable, SetupRan, SetupSoFar, SetupGoesOn, StepsRan, SessionsClosed, IsAnyOpen, IsEnded};
 
+use crate::counts::count_of;
 use crate::engine::{Ended, Engine, Given};
 use al_history::{Block, Part, Run, RunList, Scripts, Setup, Spec};
 use al_values::{ListOf, NoMemory};
@@ -47,7 +48,7 @@ fn run_setup(alloc: Global, engine: &mut Engine, spec: &Spec) -> Result<Setup, N
     ensures rests { Rests engine.new }
 {
     for (number, block) in spec.blocks.as_slice().iter().enumerate() {
-        let number = number as u32;
+        let number = count_of(number)?;
         match run_setup_block(alloc, engine, spec, number, block)? {
             Ended::Done => {}
             Ended::Refused => return Ok(Setup::Failed { block: number }),

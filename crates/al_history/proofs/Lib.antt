@@ -1,2 +1,9 @@
 pub mod Pasts
+pub mod Vectors
+pub mod VectorsCauses
+pub mod VectorsRefused
+pub mod VectorsRules
+pub mod VectorsViews
+pub mod VectorsWhole
+pub mod VectorsWrong
 pub mod Views

@@ -4,19 +4,10 @@ ghost use Rattle.al_history.specs.Cause.{create_cause, twice_column, is_among, a
 ghost use Rattle.al_app.specs.Stored.{tables_of, table_of};
 
 use super::stored::{StoredTable, has_column, position_of};
+use crate::counts::count_of;
 use al_history::{Cause, Column};
 use al_values::{Copied, Name, NoMemory};
 use std::alloc::Global;
-
-/// A length as a number of the journal. A list that is longer than any journal counts as want of memory.
-fn count_of(length: usize) -> Result<u32, NoMemory>
-    ensures { IfOk result (λ count. count ≡ length) }
-{
-    match u32::try_from(length) {
-        Ok(count) => Ok(count),
-        Err(_) => Err(NoMemory),
-    }
-}
 
 /// Why a CREATE TABLE is refused: its name first, then its columns' names.
 pub fn create_cause(

@@ -1,20 +1,28 @@
-ghost use Rattle.std.specs.Prelude.{◌≡◌, [], ◌∷◌, Some, ◌<◌, length, position, IfOk, IfSome};
+ghost use Rattle.std.specs.Prelude.{◌≡◌, ℕ, List, [], ◌∷◌, Some, None, ◌<◌, length, position, IfOk, IfSome};
 ghost use Rattle.std.specs.Option.{option_map};
 ghost use Rattle.al_app.specs.FirstSteps.{Gives};
 ghost use Rattle.al_app.specs.First.{setup_block, step_block, is_step};
-ghost use Rattle.al_app.specs.FirstReading.{each_from, setup_at, setups_from, session_at, step_at, steps_from, permutation_at, number_of, script_of, is_bounded, spec_of, first_of};
+ghost use Rattle.al_app.specs.FirstReading.{each_from, setup_at, setups_from, session_at, step_at, steps_from, permutation_at, number_of, script_of, is_bounded, spec_of, first_of, HasPlaces};
 
 use crate::first::outside::{NOT_YET, Token, tokens_of};
 use crate::first::statement::statement_of;
 use al_history::{Block, Part, ScriptBlock, ScriptList, Scripts, Spec, SpecFault};
 use al_values::{Cant, Copied, IdList, ListOf, Name, NoMemory, Txt};
 use std::alloc::Global;
+use std::collections::BTreeMap;
 
 // The most bytes of a spec file.
 const MOST_BYTES: usize = 65_536;
 
 // The most blocks that a run gives.
 const MOST_GIVEN: usize = 100;
+
+// The blocks, and at each step's name its number.
+#[derive(Drop)]
+struct Steps {
+    blocks: Vec<Block>,
+    places: BTreeMap<String, usize>,
+}
 
 fn single<T: Drop>(alloc: Global, item: T) -> Result<ListOf<T>, NoMemory>
     ensures { IfOk result (λ list. list ≡ item ∷ []) }
@@ -99,39 +107,29 @@ fn step_block(alloc: Global, name: &Txt, text: &Txt) -> Result<Block, NoMemory>
     })
 }
 
-fn is_step(name: &Txt, block: &Block) -> bool
-    ensures { result ≡ is_step name.now block.now }
-{
-    match block.part {
-        Part::Setup => false,
-        Part::Step => block.name.as_str() == name.as_str(),
-    }
-}
-
-fn place_of(blocks: &[Block], name: &Txt) -> Option<usize>
-    ensures { result ≡ position (is_step name.now) blocks.now }
-{
-    blocks.iter().position(|block| is_step(name, block))
-}
-
 fn steps_from(
     alloc: Global,
     front: Vec<Block>,
     tokens: &[Token],
-) -> Result<(Vec<Block>, &[Token]), Cant<SpecFault>>
-    ensures { Gives (λ x. (x.0.items, x.1.now)) result (steps_from front.items tokens.now) }
+) -> Result<(Steps, &[Token]), Cant<SpecFault>>
+    requires { (name : List ℕ) → position (is_step name) front.items ≡ None }
+    ensures steps { Gives (λ x. (x.0.blocks.items, x.1.now)) result (steps_from front.items tokens.now) }
+    ensures places { IfOk result (λ x. HasPlaces x.0.places x.0.blocks.items) }
 {
     let mut blocks = front;
+    let mut places: BTreeMap<String, usize> = BTreeMap::new(alloc);
     let mut rest = tokens;
     while let Some((name, text, after)) = step_at(rest) {
-        if place_of(blocks.as_slice(), name).is_some() {
+        if places.contains_key(name.as_str()) {
             return Err(NOT_YET);
         }
         let block = step_block(alloc, name, text)?;
+        let key = String::from_str(alloc, name.as_str())?;
+        places.insert(key, blocks.len())?;
         blocks.push(block)?;
         rest = after;
     }
-    Ok((blocks, rest))
+    Ok((Steps { blocks, places }, rest))
 }
 
 #[tactic(auto, unfolding(crate::specs::FirstReading::permutation_at))]
@@ -145,27 +143,29 @@ fn permutation_at(tokens: &[Token]) -> Result<&[Token], Cant<SpecFault>>
 }
 
 #[tactic(auto, unfolding(crate::specs::FirstReading::number_of))]
-fn number_of(blocks: &[Block], token: &Token) -> Result<u32, Cant<SpecFault>>
-    ensures { Gives (λ x. x) result (number_of blocks.now token.now) }
+fn number_of(steps: &Steps, token: &Token) -> Result<u32, Cant<SpecFault>>
+    requires { HasPlaces steps.now.places steps.now.blocks.items }
+    ensures { Gives (λ x. x) result (number_of steps.now.blocks.items token.now) }
 {
     let Token::Name(name) = token else {
         return Err(NOT_YET);
     };
-    let Some(place) = place_of(blocks, name) else {
+    let Some(place) = steps.places.get(name.as_str()) else {
         return Err(NOT_YET);
     };
-    match u32::try_from(place) {
+    match u32::try_from(*place) {
         Ok(number) => Ok(number),
         Err(_) => Err(Cant::NoMemory),
     }
 }
 
-fn numbers_from(alloc: Global, blocks: &[Block], names: &[Token]) -> Result<IdList, Cant<SpecFault>>
-    ensures { Gives (λ x. x) result (each_from (number_of blocks.now) [] names.now) }
+fn numbers_from(alloc: Global, steps: &Steps, names: &[Token]) -> Result<IdList, Cant<SpecFault>>
+    requires { HasPlaces steps.now.places steps.now.blocks.items }
+    ensures { Gives (λ x. x) result (each_from (number_of steps.now.blocks.items) [] names.now) }
 {
     let mut numbers = ListOf::new(alloc);
     for token in names {
-        let number = number_of(blocks, token)?;
+        let number = number_of(steps, token)?;
         numbers.push(number)?;
     }
     Ok(numbers)
@@ -214,17 +214,17 @@ fn spec_of(alloc: Global, tokens: &[Token]) -> Result<Spec, Cant<SpecFault>>
     let (setups, rest) = setups_from(alloc, tokens)?;
     let count = setups.len();
     let (session, rest) = session_at(alloc, rest)?;
-    let (blocks, rest) = steps_from(alloc, setups, rest)?;
+    let (steps, rest) = steps_from(alloc, setups, rest)?;
     let names = permutation_at(rest)?;
-    let numbers = numbers_from(alloc, blocks.as_slice(), names)?;
-    if !is_bounded(count, blocks.len(), numbers.len()) {
+    let numbers = numbers_from(alloc, &steps, names)?;
+    if !is_bounded(count, steps.blocks.len(), numbers.len()) {
         return Err(NOT_YET);
     }
     let sessions = single(alloc, session)?;
     let permutations = single(alloc, numbers)?;
     Ok(Spec {
         sessions,
-        blocks: ListOf::from_vec(blocks),
+        blocks: ListOf::from_vec(steps.blocks),
         permutations,
     })
 }

@@ -119,15 +119,16 @@ fn statements(rt: HostRuntime) -> Result<(), Fail> {
             "{text}"
         );
     }
-    for (name, wanted) in [(long, true), ("ab", true)] {
+    for (more, wanted) in [("", true), ("b", false)] {
+        let name = format!(in rt.alloc(); "{long}{more}")?;
         let file = format!(in rt.alloc();
             "session s step a {{select * from {name}}} permutation a"
         )?;
-        assert_eq!(rt; is_first(rt.alloc(), file.as_bytes()), Some(wanted));
-        let file = format!(in rt.alloc();
-            "session s step a {{select * from {long}{name}}} permutation a"
-        )?;
-        assert_eq!(rt; is_first(rt.alloc(), file.as_bytes()), Some(false));
+        assert_eq!(rt;
+            is_first(rt.alloc(), file.as_bytes()),
+            Some(wanted),
+            "{name}"
+        );
     }
     Ok(())
 }
@@ -157,6 +158,23 @@ fn limits(rt: HostRuntime) -> Result<(), Fail> {
     assert_eq!(rt; is_first(rt.alloc(), text.as_slice()), Some(false));
     text.truncate(ADDS.len() + 96 * 4);
     text.extend_from_slice(b"add ")?;
+    assert_eq!(rt; is_first(rt.alloc(), text.as_slice()), Some(false));
+    Ok(())
+}
+
+// Many steps are read, and two of one name among them aren't.
+#[test]
+fn many_steps(rt: HostRuntime) -> Result<(), Fail> {
+    let mut text = b"session s ".to_vec(rt.alloc())?;
+    for number in 0u32..2_000 {
+        let step = format!(in rt.alloc(); "step a{number}{{select*from t}} ")?;
+        text.extend_from_slice(step.as_bytes())?;
+    }
+    let len = text.len();
+    text.extend_from_slice(b"permutation a1999 a0")?;
+    assert_eq!(rt; is_first(rt.alloc(), text.as_slice()), Some(true));
+    text.truncate(len);
+    text.extend_from_slice(b"step a7{select*from t} permutation a1999 a0")?;
     assert_eq!(rt; is_first(rt.alloc(), text.as_slice()), Some(false));
     Ok(())
 }
