@@ -12,4 +12,5 @@ pub mod FirstFiles
 pub mod FirstShapes
 pub mod ReportLemmas
 pub mod TopLemmas
+pub mod AnswerLemmas
 mod ReportVectors
