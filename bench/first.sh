@@ -1,6 +1,7 @@
 #!/usr/bin/env bash
 # Times the proved program on spec files of the first form that it makes: about 1, 8 and 64 KB, many steps of INSERT and
-# SELECT, of which the permutation names up to 90. Prints a table of sizes, medians, and growth from line to line.
+# SELECT, of which the permutation names up to 90. Prints a table of sizes, medians, and growth from line to line. The first
+# line is an empty input, which is refused: the time of starting the program.
 # Usage: bench/first.sh [RUNS]   (how often each is timed; 15 where not given)
 set -eu
 cd "$(dirname "$0")/.."
@@ -35,18 +36,18 @@ spec() {
 median() {
   for _ in $(seq "$runs"); do
     from=$(date +%s%N)
-    "$program" run <"$1" >"$room/report" || exit 1
+    "$program" run <"$1" >"$room/report" || [ ! -s "$1" ] || exit 1
     echo $((($(date +%s%N) - from) / 1000))
   done | sort -n | awk '{ a[NR] = $1 } END { printf "%.2f", a[int((NR + 1) / 2)] / 1000 }'
 }
 
 printf '%10s %8s %8s %10s %8s %8s\n' 'spec bytes' steps given report 'ms' growth
 before=
-for most in 1024 8192 65536; do
-  spec "$most" >"$room/spec"
+for most in 0 1024 8192 65536; do
+  if [ "$most" = 0 ]; then : >"$room/spec"; else spec "$most" >"$room/spec"; fi
   ms=$(median "$room/spec")
   growth=$(awk -v a="${before:-0}" -v b="$ms" 'BEGIN { if (a > 0) printf "%.2f", b / a; else printf "-" }')
-  printf '%10d %8d %8d %10d %8s %8s\n' "$(wc -c <"$room/spec")" "$(grep -c '^step' "$room/spec")" \
-    "$(tail -n 1 "$room/spec" | awk '{ print NF - 1 }')" "$(wc -c <"$room/report")" "$ms" "$growth"
+  printf '%10d %8d %8d %10d %8s %8s\n' "$(wc -c <"$room/spec")" "$(grep -c '^step' "$room/spec" || true)" \
+    "$(awk '/^permutation/ { n = NF - 1 } END { print n + 0 }' "$room/spec")" "$(wc -c <"$room/report")" "$ms" "$growth"
   before=$ms
 done
