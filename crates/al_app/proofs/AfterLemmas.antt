@@ -1,12 +1,11 @@
 -- What a step of the engine did, by how its statement was judged.
-use Rattle.std.proofs.Common.{◌≡◌, ℕ, suc, ◌+◌, ◌<◌, ◌≤◌, List, [], ◌∷◌, ◌++◌, length, refl, sym, ap, Option, Some, None, Result, Ok, Err, arith, ◌∙◌, slice_get, slice_set, get_or, option_map, cond, true, false, Bool, map, IfSome}
+use Rattle.std.proofs.Common.{◌≡◌, ℕ, suc, ◌+◌, ◌<◌, ◌≤◌, List, [], ◌∷◌, ◌++◌, length, refl, sym, ap, Option, Some, None, Ok, Err, arith, ◌∙◌, slice_get, slice_set, get_or, option_map, cond, true, false, Bool, map, IfSome}
 use Rattle.std.specs.Prelude.{is_some, nat_lt}
 use Rattle.std.proofs.lemmas.Bool.{ltb-false}
 use Rattle.std.proofs.lemmas.Option.{slice_get-get_or}
 use Rattle.al_values.specs.declared.scalar.Value.{Value}
 use Rattle.al_history.specs.declared.entry.Cause.{Cause}
 use Rattle.al_history.specs.declared.entry.Cause.TheVariants as causes
-use Rattle.al_history.specs.declared.entry.Entry.{Entry}
 use Rattle.al_history.specs.declared.entry.Entry.TheVariants.{Make, Add, Read, Alter}
 use Rattle.al_history.specs.declared.entry.Reply.TheVariants as replies
 use Rattle.al_history.specs.declared.entry.Tag.TheVariants as tags
@@ -14,8 +13,7 @@ use Rattle.al_history.specs.declared.statement.Column.{Column}
 use Rattle.al_history.specs.declared.statement.Statement.{Statement}
 use Rattle.al_history.specs.declared.statement.Statement.TheVariants as statements
 use Rattle.al_history.specs.Past.{Past}
-use Rattle.al_history.specs.Database.{VersionedRow, Table, Database, named, has_table, has_column}
-use Rattle.al_history.specs.Query.{column_names, answer}
+use Rattle.al_history.specs.Database.{VersionedRow, Table, named, has_table, has_column}
 use Rattle.al_history.specs.Change.{shape_of, filled, with_row, Alteration, alteration, after_alteration}
 use Rattle.al_history.specs.Cause.{used_name, if_missing, name_cause, look_cause, create_cause, count_cause, alter_cause, refusal}
 use Rattle.al_app.specs.declared.engine.steps.Ended.TheVariants as ends
@@ -23,7 +21,7 @@ use Rattle.al_app.specs.declared.engine.stored.StoredRow.{StoredRow}
 use Rattle.al_app.specs.declared.engine.stored.StoredTable.{StoredTable}
 use Rattle.al_app.specs.Steps.{act_place, done_step, refused_step, unknown_step, act_of, reply_of, changed}
 use Rattle.al_app.specs.Stored.{row_of, table_of, tables_of, names_of, filled_rows, with_stored_row, with_stored_column, RowsFit, AreSound}
-use Rattle.al_app.specs.After.{IsAfter, IsBefore}
+use Rattle.al_app.specs.After.{IsAfter}
 use Rattle.al_app.proofs.StoredLemmas.{sound_more, not_there, sound_push, tables_push, tables_set, sound_set, sound_at, rows_below_more, rows_below_push, rows_fit_push, rows_fit_more, with_row_is, with_column_is}
 
 module _ (s block : ℕ) (before after : Past) (old : List StoredTable) where

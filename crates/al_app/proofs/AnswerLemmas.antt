@@ -1,12 +1,10 @@
 -- How an answer comes about.
-use Rattle.std.proofs.Common.{◌≡◌, ℕ, List, [], refl, sym, subst, Option, Some, None, IfSome, inl, inr}
-use Rattle.std.specs.Prelude.{◌⊎◌}
+use Rattle.std.proofs.Common.{◌≡◌, ℕ, List, refl, sym, subst, Option, Some, None, IfSome, inl, inr}
 use Rattle.al_history.specs.declared.run.Run.{Run}
-use Rattle.al_history.specs.declared.spec.SpecFault.{SpecFault}
-use Rattle.al_outside.specs.Holding.{Held, Grows, GrowsByFront}
+use Rattle.al_outside.specs.Holding.{Held, Grows}
 use Rattle.al_app.specs.declared.status.Status.{Status}
 use Rattle.al_app.specs.declared.status.Status.TheVariants as statuses
-use Rattle.al_app.specs.Answers.{bad_word, HasRun, IsNotFirst, failed_first, status_of, fault_line, Comes, IsWritten, IsCutOff, IsAnswer, IsConcluded, IsTold, IsComplete}
+use Rattle.al_app.specs.Answers.{bad_word, HasRun, IsNotFirst, failed_first, status_of, Comes, IsAnswer, IsConcluded, IsTold}
 
 module _ (words : List (List ℕ)) (told : Option (List ℕ)) (read_failed write_failed : Type 0) (old new : Held) (runs : List Run) (text : List ℕ) where
   is_written : (wanted : Status) → Comes words told read_failed runs text wanted → Grows old new text → IsAnswer words told read_failed write_failed old new runs wanted

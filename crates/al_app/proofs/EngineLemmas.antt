@@ -1,10 +1,10 @@
 -- What the engine keeps, and what a step of it did.
-use Rattle.std.proofs.Common.{◌≡◌, ℕ, suc, ◌<◌, ◌≤◌, List, [], ◌∷◌, ◌++◌, length, refl, sym, ap, subst, cond, true, false, Bool, Option, Some, None, Result, Ok, Err, arith, ◌∙◌, IfOk, OnErr, IsSome}
+use Rattle.std.proofs.Common.{◌≡◌, ℕ, suc, ◌<◌, List, [], ◌∷◌, ◌++◌, length, refl, sym, subst, true, false, Option, Some, None, Result, Ok, Err, arith, IfOk, OnErr}
 use Rattle.std.specs.Prelude.{◌==◌}
 use Rattle.al_values.specs.declared.cant.NoMemory.{NoMemory}
 use Rattle.al_history.specs.declared.entry.Cause.{Cause}
 use Rattle.al_history.specs.declared.entry.Entry.{Entry}
-use Rattle.al_history.specs.declared.entry.Entry.TheVariants.{Give, Look, Add, Read, Alter, Close}
+use Rattle.al_history.specs.declared.entry.Entry.TheVariants.{Give, Look, Close}
 use Rattle.al_history.specs.declared.spec.Spec.{Spec}
 use Rattle.al_history.specs.declared.statement.Statement.{Statement}
 use Rattle.al_history.specs.declared.statement.Statement.TheVariants as statements
@@ -14,16 +14,15 @@ use Rattle.al_history.specs.Database.{Table, Database, named}
 use Rattle.al_history.specs.Hand.{hand, statement_of, closed}
 use Rattle.al_history.specs.Cause.{name_cause, look_cause}
 use Rattle.al_history.specs.Legal.{MayCome}
-use Rattle.al_history.specs.Whole.{driver, failed_setup, or_else, of_setup}
+use Rattle.al_history.specs.Whole.{driver, failed_setup}
 use Rattle.al_history.proofs.Pasts.{if_same}
 use Rattle.al_app.specs.declared.engine.stored.StoredTable.{StoredTable}
 use Rattle.al_app.specs.declared.engine.steps.Ended.{Ended}
 use Rattle.al_app.specs.declared.engine.steps.Ended.TheVariants as ends
-use Rattle.al_app.specs.Rest.{IsAtRest}
-use Rattle.al_app.specs.Steps.{xact_next, act_place, begun, done_step, act_of, reply_of, if_table, past_by_look, past_by_name, past_after, db_after}
-use Rattle.al_app.specs.Stored.{tables_of, AreSound}
+use Rattle.al_app.specs.Steps.{act_of, if_table, past_by_look, past_by_name, past_after}
+use Rattle.al_app.specs.Stored.{tables_of}
 use Rattle.al_app.specs.After.{IsAfter, IsBefore, end_after, unless_refused}
-use Rattle.al_app.specs.Ran.{Ran, Rests, MayGive, Stepped, failed_after}
+use Rattle.al_app.specs.Ran.{Ran, MayGive, Stepped, failed_after}
 use Rattle.al_app.specs.Kept.{IsKept}
 use Rattle.al_app.proofs.Phases as phases
 use Rattle.al_app.proofs.Step.{step_rests}
@@ -76,7 +75,8 @@ may_give scripts past s block statement may is = record { of_session = may.of_se
 kept_after : (scripts : Scripts) (past after : Past) (s block : ℕ) (statement : Statement) (old new : List StoredTable) (ended : Ended) → IsKept scripts past old → MayGive (record { scripts = scripts; past = past }) s block → statement_of scripts (Some block) 0 ≡ Some statement → IsAfter ended s block statement past after old new → IsKept scripts after new
 kept_after scripts past after s block statement old new ended kept may is step = record {
   rest = rw (step.journal, step.tables) (step_rests scripts past s block (tables_of old) statement kept.rest (may_give scripts past s block statement may is));
-  sound = step.sound }
+  sound = step.sound;
+}
 
 pub step_keeps : (scripts : Scripts) (past after : Past) (s block : ℕ) (statement : Statement) (old new : List StoredTable) (ran : Ran) (result : Result Ended NoMemory) → record { scripts = scripts; past = past } ≡ ran → IsKept scripts past old → MayGive ran s block → statement_of scripts (Some block) 0 ≡ Some statement → IfOk result (λ ended. IsAfter ended s block statement past after old new) → OnErr result (IsBefore past after old new) → IsKept scripts after new
 step_keeps scripts past after s block statement old new ran (Ok ended) view kept may is ok err = kept_after scripts past after s block statement old new ended kept (rw view may) is ok
@@ -89,7 +89,8 @@ step_done scripts past after s block statement old new ran (Ok ended) view ok =
       scripts = refl;
       driven = rw ok.journal did.driven;
       failed = λ spec. rw (ok.journal, ok.ended_so) (did.failed spec);
-      closed_same = λ r. rw ok.journal (did.closed_same r) })
+      closed_same = λ r. rw ok.journal (did.closed_same r);
+    })
 step_done scripts past after s block statement old new ran (Err e) view ok = tt
 
 pub close_keeps : (scripts : Scripts) (past after : Past) (s : ℕ) (tables : List StoredTable) (ran : Ran) → record { scripts = scripts; past = past } ≡ ran → IsKept scripts past tables → s < ran.scripts.sessions → closed ran.past s ≡ false → after ≡ Close s ∷ past → IsKept scripts after tables
@@ -98,9 +99,10 @@ close_keeps scripts past after s tables ran view kept known_so open_of_ran is =
     let known : s < scripts.sessions = subst (λ (r : Ran). s < r.scripts.sessions) (sym view) known_so in
     let open_so : closed past s ≡ false = subst (λ (r : Ran). closed r.past s ≡ false) (sym view) open_of_ran in
     let comes : MayCome scripts past (Close s) = record {
-          rule = record { known = known; idle = rest.hands s; not_closed = open_so; none_open = rest.xacts s };
-          follows = rw rest.owed_is tt;
-          alone = tt } in
+      rule = record { known = known; idle = rest.hands s; not_closed = open_so; none_open = rest.xacts s };
+      follows = rw rest.owed_is tt;
+      alone = tt;
+    } in
     rw is (record {
       rest = record {
         legal = (comes, rest.legal);
@@ -109,6 +111,7 @@ close_keeps scripts past after s tables ran view kept known_so open_of_ran is =
         xacts = rest.xacts;
         owed_is = refl;
         committed_is = rest.committed_is;
-        fates = λ x le. rest.fates x (omega arith) };
-      sound = sound_more 0 (length past) (suc (length past)) tables (omega arith) kept.sound
+        fates = λ x le. rest.fates x (omega arith);
+      };
+      sound = sound_more 0 (length past) (suc (length past)) tables (omega arith) kept.sound;
     })

@@ -1,10 +1,10 @@
 -- How a step goes on, from rest to rest: what is known after each of its entries.
-use Rattle.std.proofs.Common.{◌≡◌, ℕ, suc, ◌<◌, ◌≤◌, List, [], ◌∷◌, ◌++◌, length, refl, sym, ap, cond, true, false, Bool, Option, Some, None, arith, subst, ◌∙◌, inl, inr, IsSome, IsOk}
+use Rattle.std.proofs.Common.{◌≡◌, ℕ, suc, ◌<◌, ◌≤◌, List, [], ◌∷◌, ◌++◌, length, refl, sym, ap, cond, true, false, Bool, Option, Some, None, arith, subst, ◌∙◌, inl, inr}
 use Rattle.std.specs.Prelude.{◌==◌, ◌≢◌, ◌⊎◌, eqb, slice_get, option_map}
 use Rattle.std.proofs.lemmas.Bool.{ne_eqb}
 use Rattle.std.proofs.lemmas.Bool.Decides.{eqb_tells}
 use Rattle.al_history.specs.declared.entry.Entry.{Entry}
-use Rattle.al_history.specs.declared.entry.Entry.TheVariants.{Give, Start, Look, Make, Add, Read, Alter, Done, Refuse, Commit, Abort, End, Close}
+use Rattle.al_history.specs.declared.entry.Entry.TheVariants.{Give, Start, Look, Make, Add, Read, Alter, Done, Refuse, Commit, Abort, End}
 use Rattle.al_history.specs.declared.entry.Level.TheVariants as levels
 use Rattle.al_history.specs.declared.entry.Reply.{Reply}
 use Rattle.al_history.specs.declared.entry.Cause.{Cause}
@@ -19,11 +19,11 @@ use Rattle.al_history.specs.Database.{Table, Database, named}
 use Rattle.al_history.specs.Fate.{fate, Open, is_that}
 use Rattle.al_history.specs.Hand.{hand, dones, refused, in_hand, statement_of, xact_of, session_of, look_of, acts_of, closed}
 use Rattle.al_history.specs.View.{latest, committed}
-use Rattle.al_history.specs.Cause.{cause_of, cause_at, name_cause, look_cause}
-use Rattle.al_history.specs.Tail.{owed, Follows}
+use Rattle.al_history.specs.Cause.{cause_of, cause_at, name_cause}
+use Rattle.al_history.specs.Tail.{owed}
 use Rattle.al_history.specs.Query.{column_names, answer}
 use Rattle.al_history.specs.Change.{shape_of, filled, made, added, altered, alteration, Passes}
-use Rattle.al_history.specs.Rules.{Rule, ActRule, looked_at, Answers}
+use Rattle.al_history.specs.Rules.{Rule, ActRule, Answers}
 use Rattle.al_history.specs.Alone.{Alone}
 use Rattle.al_history.specs.Legal.{Legal, MayCome}
 use Rattle.al_history.specs.Whole.{Driven, InTurn, IsTurn, IsLeast}

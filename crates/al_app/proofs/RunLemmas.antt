@@ -1,6 +1,6 @@
 -- What the driver did, entry by entry.
-use Rattle.std.proofs.Common.{◌≡◌, ℕ, zero, suc, ◌+◌, ◌-◌, ◌<◌, ◌≤◌, List, [], ◌∷◌, ◌++◌, length, take, map, refl, sym, ap, subst, cond, true, false, Bool, Option, Some, None, arith, ◌∙◌, Result, Ok, Err, IfOk, OnOk, inl, inr, slice_get, option_map, append_assoc, add-one}
-use Rattle.std.specs.Prelude.{◌==◌, ◌≢◌, ◌⊎◌, eqb, leb, ◌||◌, ◌&&◌, nat_le, nat_lt, option_and_then}
+use Rattle.std.proofs.Common.{◌≡◌, ℕ, zero, suc, ◌+◌, ◌-◌, ◌<◌, ◌≤◌, List, [], ◌∷◌, ◌++◌, length, take, map, refl, sym, ap, subst, cond, true, false, Bool, Some, None, arith, ◌∙◌, Result, Ok, Err, IfOk, OnOk, inl, inr, slice_get, append_assoc}
+use Rattle.std.specs.Prelude.{◌==◌, ◌≢◌, ◌⊎◌, eqb, leb, ◌||◌, ◌&&◌, nat_le, nat_lt}
 use Rattle.std.specs.List.{AllByRecursion}
 use Rattle.std.proofs.lemmas.Bool.{ne_eqb, le-ltb, leb-true, le-leb, lt-ltb}
 use Rattle.std.proofs.lemmas.Bool.Decides.{eqb_tells, leb_tells}
@@ -17,7 +17,7 @@ use Rattle.al_history.specs.declared.spec.Spec.{Spec}
 use Rattle.al_history.specs.declared.statement.ScriptBlock.{ScriptBlock}
 use Rattle.al_history.specs.declared.statement.Scripts.{Scripts}
 use Rattle.al_history.specs.Hand.{closed}
-use Rattle.al_history.specs.Whole.{driver, is_setup, setup_blocks, given, up_to, failed_setup, of_setup, closes, setup_by, IsRun}
+use Rattle.al_history.specs.Whole.{driver, is_setup, setup_blocks, given, up_to, failed_setup, closes, setup_by, IsRun}
 use Rattle.al_history.specs.Kept.{Kept}
 use Rattle.al_history.specs.Past.{past_of}
 use Rattle.al_history.proofs.Pasts.{if_same}
@@ -44,7 +44,8 @@ may_give_at spec ran number block runnable any_open is =
       of_session = rw (at.1, at.2.session) refl;
       not_closed = any_open block.session;
       has_one = rw (at.1, at.2.alone) refl;
-      has_no_more = rw (at.1, at.2.alone) refl }
+      has_no_more = rw (at.1, at.2.alone) refl;
+    }
 
 given_is : (spec : Spec) (number : ℕ) (block : Block) → slice_get spec.blocks number ≡ Some block → given spec number ≡ Give block.session number
 given_is spec number block is = rw is refl
@@ -59,9 +60,9 @@ setup_more (b ∷ blocks) first (suc count) block is =
     let more = setup_more blocks (first + 1) count block is in
     let n : first + 1 + count ≡ first + suc count = omega arith in
     by_test (is_setup b.part) _ _ _ (more ∙ ap (λ (m : ℕ). setup_blocks (first + 1) (take count blocks) ++ cond (is_setup block.part) (m ∷ []) []) n) where
-  by_test : (t : Bool) (xs ys zs : List ℕ) → xs ≡ ys ++ zs → cond t (first ∷ xs) xs ≡ cond t (first ∷ ys) ys ++ zs
-  by_test true xs ys zs e = ap (λ (l : List ℕ). first ∷ l) e
-  by_test false xs ys zs e = e
+      by_test : (t : Bool) (xs ys zs : List ℕ) → xs ≡ ys ++ zs → cond t (first ∷ xs) xs ≡ cond t (first ∷ ys) ys ++ zs
+      by_test true xs ys zs e = ap (λ (l : List ℕ). first ∷ l) e
+      by_test false xs ys zs e = e
 
 -- the setup blocks up to one of them
 setup_up_to : (blocks : List Block) (first count : ℕ) (block : Block) → slice_get blocks count ≡ Some block → is_setup block.part ≡ true → up_to (first + count) (setup_blocks first blocks) ≡ setup_blocks first (take count blocks) ++ (first + count) ∷ []
@@ -75,9 +76,9 @@ setup_up_to (b ∷ blocks) first (suc count) block is part =
     let n : first + 1 + count ≡ first + suc count = omega arith in
     let other : (first == first + suc count) ≡ false = ne_eqb first (first + suc count) (λ e. omega arith) in
     by_test (is_setup b.part) _ _ _ (rw n at more) other where
-  by_test : (t : Bool) (last : ℕ) (all some : List ℕ) → up_to last all ≡ some ++ last ∷ [] → (first == last) ≡ false → up_to last (cond t (first ∷ all) all) ≡ cond t (first ∷ some) some ++ last ∷ []
-  by_test true last all some e other = rw (other, e) refl
-  by_test false last all some e other = e
+      by_test : (t : Bool) (last : ℕ) (all some : List ℕ) → up_to last all ≡ some ++ last ∷ [] → (first == last) ≡ false → up_to last (cond t (first ∷ all) all) ≡ cond t (first ∷ some) some ++ last ∷ []
+      by_test true last all some e other = rw (other, e) refl
+      by_test false last all some e other = e
 
 module _ (spec : Spec) (mid new : Ran) (number : ℕ) (block : Block) (is : slice_get spec.blocks number ≡ Some block) where
   -- a setup block that was done
@@ -89,7 +90,8 @@ module _ (spec : Spec) (mid new : Ran) (number : ℕ) (block : Block) (is : slic
       record {
         driven = step.driven ∙ ap (λ (l : List Entry). l ++ Give block.session number ∷ []) so_far.driven ∙ sym (rw (n, setup_more spec.blocks 0 number block is, setup, zero_more, map-append, given_is spec number block is) refl);
         failed = step.failed spec ∙ so_far.failed;
-        any_open = λ s. step.closed_same s ∙ so_far.any_open s }
+        any_open = λ s. step.closed_same s ∙ so_far.any_open s;
+      }
 
   -- a setup block that was refused
   setup_fails : block.part ≡ parts.Setup → SetupSoFar spec mid number → Stepped mid new block.session number ends.Refused → SetupRan spec new (setups.Failed number)
@@ -100,7 +102,8 @@ module _ (spec : Spec) (mid new : Ran) (number : ℕ) (block : Block) (is : slic
       record {
         driven = step.driven ∙ ap (λ (l : List Entry). l ++ Give block.session number ∷ []) so_far.driven ∙ sym (rw (up, map-append, given_is spec number block is) refl);
         failed = step.failed spec ∙ rw (so_far.failed, is, setup) refl;
-        any_open = λ s. step.closed_same s ∙ so_far.any_open s }
+        any_open = λ s. step.closed_same s ∙ so_far.any_open s;
+      }
 
   pub setup_steps : (ended : Ended) → block.part ≡ parts.Setup → SetupSoFar spec mid number → Stepped mid new block.session number ended → SetupGoesOn spec new number ended
   setup_steps ends.Done part so_far step = setup_goes_on part so_far step
@@ -118,7 +121,8 @@ module _ (spec : Spec) (mid new : Ran) (number : ℕ) (block : Block) (is : slic
       record {
         driven = so_far.driven ∙ sym (rw (n, setup_more spec.blocks 0 number block is, setup, append-nil) refl);
         failed = so_far.failed;
-        any_open = so_far.any_open }
+        any_open = so_far.any_open;
+      }
 
 pub setup_begins : (spec : Spec) (ran : Ran) → ran.past ≡ [] → SetupSoFar spec ran 0
 setup_begins spec ran none = record { driven = rw none refl; failed = rw none refl; any_open = λ s. rw none refl }
@@ -127,7 +131,8 @@ pub setup_ends : (spec : Spec) (new : Ran) (count : ℕ) → length spec.blocks 
 setup_ends spec new count le so_far = record {
   driven = rw (take_all count spec.blocks le) at so_far.driven;
   failed = so_far.failed;
-  any_open = so_far.any_open }
+  any_open = so_far.any_open;
+}
 
 -- a step of a permutation
 step_at : (spec : Spec) (steps : List ℕ) (at : ℕ) (step : ℕ) → AllByRecursion (IsStepAt spec.blocks) steps → slice_get steps at ≡ Some step → IsStepAt spec.blocks step
@@ -157,10 +162,11 @@ steps_go_on spec old mid new steps at step block ended all none is there so_far 
       scripts = did.scripts ∙ so_far.scripts;
       driven = did.driven ∙ ap (λ (l : List Entry). l ++ Give block.session step ∷ []) so_far.driven ∙ append_assoc (driver old.past) (map (given spec) (take at steps)) (Give block.session step ∷ []) ∙ sym more;
       failed = did.failed spec ∙ by_end ended (so_far.failed ∙ none) part ∙ sym none;
-      any_open = λ s. did.closed_same s ∙ so_far.any_open s } where
-  by_end : (e : Ended) → failed_setup spec mid.past ≡ None → is_setup block.part ≡ false → failed_after spec (failed_setup spec mid.past) step e ≡ None
-  by_end ends.Done none' part = none'
-  by_end ends.Refused none' part = rw (none', there, part) refl
+      any_open = λ s. did.closed_same s ∙ so_far.any_open s;
+    } where
+      by_end : (e : Ended) → failed_setup spec mid.past ≡ None → is_setup block.part ≡ false → failed_after spec (failed_setup spec mid.past) step e ≡ None
+      by_end ends.Done none' part = none'
+      by_end ends.Refused none' part = rw (none', there, part) refl
 
 pub steps_end : (spec : Spec) (old new : Ran) (steps : List ℕ) (at : ℕ) → length steps ≤ at → StepsRan spec old new (take at steps) → StepsRan spec old new steps
 steps_end spec old new steps at le so_far = rw (take_all at steps le) at so_far
@@ -174,18 +180,18 @@ pub closes_begin : (ran : Ran) (first : ℕ) → SessionsClosed ran ran first (f
 closes_begin ran first =
     let n : first - first ≡ 0 = omega arith in
     rw n (record { scripts = refl; driven = sym (append-nil _); failed = λ spec. refl; closed_are = λ s. none_between (closed ran.past s) (nat_le first s) (nat_lt s (first + 0)) (λ le. le-ltb s (first + 0) (let m : first ≤ s = leb-true first s le in omega arith)) }) where
-  none_between : (c b d : Bool) → (b ≡ true → d ≡ false) → c ≡ (c || (b && d))
-  none_between true b d f = refl
-  none_between false true d f = sym (f refl)
-  none_between false false d f = refl
+      none_between : (c b d : Bool) → (b ≡ true → d ≡ false) → c ≡ (c || (b && d))
+      none_between true b d f = refl
+      none_between false true d f = sym (f refl)
+      none_between false false d f = refl
 
 pub still_open_at : (old new : Ran) (first session : ℕ) → first ≤ session → SessionsClosed old new first (session - first) → closed old.past session ≡ false → closed new.past session ≡ false
 still_open_at old new first session le so_far open_so =
     let n : first + (session - first) ≡ session = omega arith in
     so_far.closed_are session ∙ rw (open_so, n, le-ltb session session (omega arith)) (no_and (nat_le first session)) where
-  no_and : (b : Bool) → (b && false) ≡ false
-  no_and true = refl
-  no_and false = refl
+      no_and : (b : Bool) → (b && false) ≡ false
+      no_and true = refl
+      no_and false = refl
 
 or_true : (b : Bool) → (b || true) ≡ true
 or_true true = refl
@@ -209,15 +215,16 @@ closes_go_on old mid new first session le so_far is =
       scripts = so_far.scripts;
       driven = ap (λ (l : List Entry). l ++ Close session ∷ []) so_far.driven ∙ append_assoc (driver old.past) (closes first (session - first)) (Close session ∷ []) ∙ sym more;
       failed = so_far.failed;
-      closed_are = λ s. closed_at s (closed old.past s) (eqb_tells session s) (so_far.closed_are s) n })  where
-  closed_at : (s : ℕ) (before : Bool) → ((eqb session s ≡ true) × (session ≡ s)) ⊎ ((eqb session s ≡ false) × (session ≢ s)) → closed mid.past s ≡ (before || (nat_le first s && nat_lt s (first + (session - first)))) → first + (session - first) ≡ session → cond (session == s) true (closed mid.past s) ≡ (before || (nat_le first s && nat_lt s (first + suc (session - first))))
-  closed_at s before (inl e) so n =
-      let from : nat_le first s ≡ true = le-leb first s (let same : session ≡ s = e.1 in omega arith) in
-      let under : nat_lt s (first + suc (session - first)) ≡ true = lt-ltb s (first + suc (session - first)) (let same : session ≡ s = e.1 in omega arith) in
-      rw (e.0, from, under) (sym (or_true before))
-  closed_at s before (inr e) so n =
-      let later : nat_lt s (first + suc (session - first)) ≡ nat_lt s (first + (session - first)) = same_below s (first + suc (session - first)) (first + (session - first)) (leb_tells (first + (session - first)) s) (omega arith) (λ (f : s ≡ first + (session - first)). e.1 (omega arith)) in
-      rw (e.0, later) so
+      closed_are = λ s. closed_at s (closed old.past s) (eqb_tells session s) (so_far.closed_are s) n;
+    }) where
+      closed_at : (s : ℕ) (before : Bool) → ((eqb session s ≡ true) × (session ≡ s)) ⊎ ((eqb session s ≡ false) × (session ≢ s)) → closed mid.past s ≡ (before || (nat_le first s && nat_lt s (first + (session - first)))) → first + (session - first) ≡ session → cond (session == s) true (closed mid.past s) ≡ (before || (nat_le first s && nat_lt s (first + suc (session - first))))
+      closed_at s before (inl e) so n =
+          let from : nat_le first s ≡ true = le-leb first s (let same : session ≡ s = e.1 in omega arith) in
+          let under : nat_lt s (first + suc (session - first)) ≡ true = lt-ltb s (first + suc (session - first)) (let same : session ≡ s = e.1 in omega arith) in
+          rw (e.0, from, under) (sym (or_true before))
+      closed_at s before (inr e) so n =
+          let later : nat_lt s (first + suc (session - first)) ≡ nat_lt s (first + (session - first)) = same_below s (first + suc (session - first)) (first + (session - first)) (leb_tells (first + (session - first)) s) (omega arith) (λ (f : s ≡ first + (session - first)). e.1 (omega arith)) in
+          rw (e.0, later) so
 
 -- all sessions are closed after a failed setup part
 pub ends_failed : (spec : Spec) (old new : Ran) (steps : List ℕ) (block count : ℕ) → count ≡ length spec.sessions + 1 → SetupRan spec old (setups.Failed block) → SessionsClosed old new 0 count → IsEnded spec new steps (setups.Failed block)
@@ -225,9 +232,10 @@ ends_failed spec old new steps block count n set_up closing = record {
   driven = closing.driven ∙ rw (set_up.driven, n) refl;
   failed = closing.failed spec ∙ set_up.failed;
   all_closed = λ s le.
-    let under : nat_lt s (0 + count) ≡ true = lt-ltb s (0 + count) (omega (arith, n)) in
-    let from : nat_le 0 s ≡ true = le-leb 0 s (omega arith) in
-    closing.closed_are s ∙ rw (from, under) (or_true (closed old.past s)) }
+      let under : nat_lt s (0 + count) ≡ true = lt-ltb s (0 + count) (omega (arith, n)) in
+      let from : nat_le 0 s ≡ true = le-leb 0 s (omega arith) in
+      closing.closed_are s ∙ rw (from, under) (or_true (closed old.past s));
+}
 
 or_first : (b c : Bool) → ((b || true) || c) ≡ true
 or_first true c = refl
@@ -245,13 +253,14 @@ ends_done spec start old mid new steps count n set_up ran first last =
     record {
       driven = last.driven ∙ rw (first.driven, given_all, n) refl;
       failed = last.failed spec ∙ first.failed spec ∙ ran.failed ∙ set_up.failed;
-      all_closed = closed_at } where
-  closed_at : (s : ℕ) → s ≤ length spec.sessions → closed new.past s ≡ true
-  closed_at zero le = last.closed_are zero ∙ or_true (closed mid.past zero)
-  closed_at (suc s) le =
-      let from : nat_le 1 (suc s) ≡ true = le-leb 1 (suc s) (omega arith) in
-      let under : nat_lt (suc s) (1 + count) ≡ true = lt-ltb (suc s) (1 + count) (omega (arith, n)) in
-      last.closed_are (suc s) ∙ rw (first.closed_are (suc s), from, under) (or_first (closed old.past (suc s)) _)
+      all_closed = closed_at;
+    } where
+      closed_at : (s : ℕ) → s ≤ length spec.sessions → closed new.past s ≡ true
+      closed_at zero le = last.closed_are zero ∙ or_true (closed mid.past zero)
+      closed_at (suc s) le =
+          let from : nat_le 1 (suc s) ≡ true = le-leb 1 (suc s) (omega arith) in
+          let under : nat_lt (suc s) (1 + count) ≡ true = lt-ltb (suc s) (1 + count) (omega (arith, n)) in
+          last.closed_are (suc s) ∙ rw (first.closed_are (suc s), from, under) (or_first (closed old.past (suc s)) _)
 
 setup_back : (setup : Setup) → setup ≡ setup_by (failed_block setup)
 setup_back setups.Done = refl
@@ -266,7 +275,8 @@ is_run spec scripts number steps setup ran history same journal rests ended =
       legal = rw (journal, ← same) rest.legal;
       whole = rw (journal, ← same) (record { driven_by = ended.driven ∙ rw ended.failed refl; in_turn = rest.driven; all_closed = ended.all_closed });
       holding = hold_always scripts _;
-      setup = setup_back setup ∙ rw (journal, ended.failed) refl }
+      setup = setup_back setup ∙ rw (journal, ended.failed) refl;
+    }
 
 pub on_ok : {T E : Type 0} (P Q : Type 0) (result : Result T E) → OnOk result P → (P → Q) → OnOk result Q
 on_ok P Q (Ok value) p f = f p

@@ -1,9 +1,9 @@
 -- A step from rest to rest: the plain slow program keeps the journal legal.
-use Rattle.std.proofs.Common.{◌≡◌, ℕ, suc, List, [], ◌∷◌, length, refl, sym, ap, cond, true, false, Bool, Option, Some, None, Result, Ok, Err, ◌∙◌, IsOk}
+use Rattle.std.proofs.Common.{◌≡◌, ℕ, [], ◌∷◌, refl, ap, cond, Option, Some, None, Result, Ok, Err, ◌∙◌}
 use Rattle.std.specs.Prelude.{is_some}
 use Rattle.al_history.specs.declared.entry.Cause.{Cause}
 use Rattle.al_history.specs.declared.entry.Cause.TheVariants as causes
-use Rattle.al_history.specs.declared.entry.Entry.TheVariants.{Look, Refuse}
+use Rattle.al_history.specs.declared.entry.Entry.TheVariants.{Look}
 use Rattle.al_history.specs.declared.statement.Statement.{Statement}
 use Rattle.al_history.specs.declared.statement.Statement.TheVariants as statements
 use Rattle.al_history.specs.declared.statement.Scripts.{Scripts}

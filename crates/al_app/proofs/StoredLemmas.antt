@@ -1,5 +1,5 @@
 -- Laws of the tables that are kept.
-use Rattle.std.proofs.Common.{◌≡◌, ℕ, suc, zero, ◌+◌, ◌<◌, ◌≤◌, List, [], ◌∷◌, ◌++◌, length, drop, get_or, refl, sym, ap, cond, true, false, Bool, Option, Some, None, arith, ◌∙◌, map, slice_get, option_map, slice_set, append_assoc, length-append, length-drop}
+use Rattle.std.proofs.Common.{◌≡◌, ℕ, suc, zero, ◌+◌, ◌<◌, ◌≤◌, List, [], ◌∷◌, ◌++◌, length, drop, get_or, refl, sym, ap, true, false, Some, arith, ◌∙◌, map, slice_get, option_map, slice_set, append_assoc, length-append, length-drop}
 use Rattle.std.specs.Prelude.{◌==◌}
 use Rattle.std.proofs.lemmas.Bool.{eq-eqb, ne_eqb}
 use Rattle.std.proofs.lemmas.List.{drop-append-le, map-append, length-map}
@@ -10,7 +10,7 @@ use Rattle.al_history.specs.Change.{filled, with_row, alteration, after_alterati
 use Rattle.al_history.proofs.Pasts.{if_same}
 use Rattle.al_app.specs.declared.engine.stored.StoredRow.{StoredRow}
 use Rattle.al_app.specs.declared.engine.stored.StoredTable.{StoredTable}
-use Rattle.al_app.specs.Stored.{row_of, tables_of, table_of, RowsFit, RowsBelow, IsSoundTable, AreSound}
+use Rattle.al_app.specs.Stored.{row_of, tables_of, table_of, RowsFit, RowsBelow, AreSound}
 
 -- the table at a place, where none before it has the name
 pub named_at : (tables : List StoredTable) (at : ℕ) (t : StoredTable) (name : List ℕ) → at < length tables → t ≡ get_or tables at t → same_name t.name name ≡ true → named (tables_of tables) name ≡ named (tables_of (drop at tables)) name → option_map table_of (slice_get tables at) ≡ named (tables_of tables) name

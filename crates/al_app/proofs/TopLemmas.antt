@@ -1,17 +1,15 @@
 -- From what was read to what is answered.
-use Rattle.std.proofs.Common.{◌≡◌, ℕ, zero, suc, ◌<◌, List, [], ◌∷◌, length, drop, get_or, refl, sym, ap, subst, Bool, true, false, cond, Option, Some, None, Result, Ok, Err, IfSome, arith, ◌∙◌, inl, inr}
-use Rattle.std.specs.Prelude.{◌⊎◌}
+use Rattle.std.proofs.Common.{◌≡◌, ℕ, zero, suc, ◌<◌, List, [], ◌∷◌, length, drop, get_or, refl, sym, subst, Option, Some, None, Result, Ok, Err, IfSome, arith, ◌∙◌}
 use Rattle.al_values.specs.declared.cant.Cant.{Cant}
 use Rattle.al_values.specs.declared.cant.Cant.TheVariants as cants
 use Rattle.al_values.specs.Gives.{GivesUnlessNoMemory}
 use Rattle.al_history.specs.declared.run.Run.{Run}
-use Rattle.al_history.specs.declared.run.Setup.{Setup}
 use Rattle.al_history.specs.declared.run.Setup.TheVariants as setups
 use Rattle.al_history.specs.declared.spec.Spec.{Spec}
 use Rattle.al_history.specs.declared.spec.SpecFault.{SpecFault}
 use Rattle.al_history.specs.declared.statement.Scripts.{Scripts}
 use Rattle.al_app.specs.First.{IsFirst}
-use Rattle.al_app.specs.Answers.{failed_run, failed_first, IsNotFirst, HasRun}
+use Rattle.al_app.specs.Answers.{failed_first, IsNotFirst, HasRun}
 use Rattle.al_app.specs.Top.{IsFaultOf}
 
 -- the run at a place, where none before it has failed

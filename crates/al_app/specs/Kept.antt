@@ -1,5 +1,5 @@
 -- What the engine keeps true of its fields.
-use Rattle.std.specs.Prelude.{ℕ, List, length}
+use Rattle.std.specs.Prelude.{List, length}
 use Rattle.al_history.specs.declared.statement.Scripts.{Scripts}
 use Rattle.al_history.specs.Past.{Past}
 use Rattle.al_app.specs.declared.engine.stored.StoredTable.{StoredTable}

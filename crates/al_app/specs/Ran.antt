@@ -1,5 +1,5 @@
 -- What contracts see of the engine: the blocks of its run and the journal so far.
-use Rattle.std.specs.Prelude.{◌≡◌, ℕ, List, [], ◌∷◌, ◌++◌, false, Option, Some, None, IsSome, slice_get, option_map}
+use Rattle.std.specs.Prelude.{◌≡◌, ℕ, [], ◌∷◌, ◌++◌, false, Option, Some, None, IsSome, slice_get, option_map}
 use Rattle.al_history.specs.declared.entry.Entry.TheVariants.{Give}
 use Rattle.al_history.specs.declared.spec.Spec.{Spec}
 use Rattle.al_history.specs.declared.statement.ScriptBlock.{ScriptBlock}

@@ -1,5 +1,5 @@
 -- A journal at rest: nothing is under way in any session.
-use Rattle.std.specs.Prelude.{◌≡◌, ℕ, ◌≤◌, length, Option, None}
+use Rattle.std.specs.Prelude.{◌≡◌, ℕ, ◌≤◌, length, None}
 use Rattle.al_history.specs.declared.statement.Scripts.{Scripts}
 use Rattle.al_history.specs.Past.{Past}
 use Rattle.al_history.specs.Database.{Database}

@@ -1,10 +1,8 @@
 -- What the driver did to the engine.
-use Rattle.std.specs.Prelude.{◌≡◌, ℕ, take, ◌+◌, ◌^◌, ◌<◌, ◌≤◌, Bool, true, false, List, [], ◌∷◌, ◌++◌, map, length, ◌||◌, ◌&&◌, nat_le, nat_lt, Option, Some, None}
+use Rattle.std.specs.Prelude.{◌≡◌, ℕ, take, ◌+◌, ◌≤◌, true, false, List, ◌++◌, map, length, ◌||◌, ◌&&◌, nat_le, nat_lt, Option, Some, None}
 use Rattle.al_history.specs.declared.run.Setup.{Setup}
 use Rattle.al_history.specs.declared.run.Setup.TheVariants as setups
-use Rattle.al_history.specs.declared.spec.Block.{Block}
 use Rattle.al_history.specs.declared.spec.Spec.{Spec}
-use Rattle.al_history.specs.declared.statement.ScriptBlock.{ScriptBlock}
 use Rattle.al_history.specs.declared.statement.Scripts.{Scripts}
 use Rattle.al_history.specs.Hand.{closed}
 use Rattle.al_history.specs.Whole.{driver, setup_blocks, given, up_to, failed_setup, closes, wanted}

@@ -1,7 +1,6 @@
 -- What a step of one statement adds to a journal at rest, and what it makes of the committed database: the plain slow
 -- program that the engine is proved against.
-use Rattle.std.specs.Prelude.{ℕ, suc, List, [], ◌∷◌, length, Option, Some, None}
-use Rattle.al_values.specs.declared.scalar.Value.{Value}
+use Rattle.std.specs.Prelude.{ℕ, suc, [], ◌∷◌, length, Option, Some, None}
 use Rattle.al_history.specs.declared.entry.Cause.{Cause}
 use Rattle.al_history.specs.declared.entry.Entry.{Entry}
 use Rattle.al_history.specs.declared.entry.Entry.TheVariants.{Give, Start, Look, Make, Add, Read, Alter, Done, Refuse, Commit, Abort, End}

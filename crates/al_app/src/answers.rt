@@ -13,7 +13,9 @@ use std::alloc::Global;
 use std::sync::Wait;
 use std::thread::Threads;
 
-const USAGE: &str = "usage: alterlive run [--brief] | race [--brief] | plan | load NUMBER [--rows ROWS]\n";
+const USAGE: &str =
+    "usage: alterlive run [--brief] | race [--brief] | plan | load NUMBER [--rows ROWS]\n";
+
 const NOT_YET: &str = "spec fault: not yet\n";
 
 /// The number of the first word that isn't of the grammar.
@@ -43,7 +45,12 @@ fn conclude<K: Sink>(sink: &mut K, wanted: Status, text: &[u8]) -> Status
 /// It always returns. The status says how the call ended, and the sink's new bytes are the report for `Done` and
 /// `SetupFailed`, one line for `Usage` and `SpecFault`, a front of what would have been written for `WriteFault`, and
 /// nothing for `ReadFault` and `NoMemory`.
-pub fn answer_alone<S: Source, K: Sink>(alloc: Global, words: &[Word], source: &mut S, sink: &mut K) -> Answer
+pub fn answer_alone<S: Source, K: Sink>(
+    alloc: Global,
+    words: &[Word],
+    source: &mut S,
+    sink: &mut K,
+) -> Answer
     // The status, the runs and what was written belong together.
     ensures answer { IsAnswer words.now (S.left source.old) (Rose (S.faults source.old) (S.faults source.new)) (Rose (K.faults sink.old) (K.faults sink.new)) (K.held sink.old) (K.held sink.new) result.runs result.status }
     // Where the input was read.
@@ -69,7 +76,14 @@ pub fn answer_alone<S: Source, K: Sink>(alloc: Global, words: &[Word], source: &
 }
 
 /// `alterlive`: every command, with threads where a command starts some. So far none does.
-pub fn answer<R: Threads + Wait + Sync, S: Source, K: Sink, G: Gate + Sync>(rt: &R, alloc: Global, words: &[Word], source: &mut S, sink: &mut K, gate: &G) -> Answer
+pub fn answer<R: Threads + Wait + Sync, S: Source, K: Sink, G: Gate + Sync>(
+    rt: &R,
+    alloc: Global,
+    words: &[Word],
+    source: &mut S,
+    sink: &mut K,
+    gate: &G,
+) -> Answer
     ensures answer { IsAnswer words.now (S.left source.old) (Rose (S.faults source.old) (S.faults source.new)) (Rose (K.faults sink.old) (K.faults sink.new)) (K.held sink.old) (K.held sink.new) result.runs result.status }
     ensures read { IsReadFor (S.left source.old) (S.left source.new) result.status }
     ensures legal { AreLegal result.runs }

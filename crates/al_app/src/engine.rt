@@ -5,9 +5,6 @@ mod notes;
 mod steps;
 mod stored;
 
-pub use notes::Given;
-pub use steps::Ended;
-
 ghost use Rattle.std.specs.Prelude.{◌≡◌, ◌<◌, ◌∷◌, [], false, length, IfOk, OnOk, OnErr, IsSome};
 ghost use Rattle.al_history.specs.declared.entry.Entry.TheVariants.{Close};
 ghost use Rattle.al_history.specs.Past.{past_of};
@@ -19,8 +16,10 @@ ghost use Rattle.al_app.specs.Stored.{AreSound};
 
 use al_history::{Entry, History, Scripts, Statement};
 use al_values::NoMemory;
+pub use notes::Given;
 use std::alloc::Global;
 use std::marker::Model;
+pub use steps::Ended;
 use steps::{add_column, create_table, insert, select};
 use stored::StoredTable;
 
@@ -86,7 +85,11 @@ impl Engine {
     pub fn close(self) -> History
         ensures { past_of result ≡ self.past }
     {
-        let Engine { scripts: _, journal, tables: _ } = self;
+        let Engine {
+            scripts: _,
+            journal,
+            tables: _,
+        } = self;
         journal
     }
 }
@@ -101,15 +104,25 @@ fn statement_at(scripts: &Scripts, block: u32) -> &Statement
 }
 
 /// Runs one statement as a whole step.
-fn run(alloc: Global, journal: &mut History, tables: &mut Vec<StoredTable>, given: Given, statement: &Statement) -> Result<Ended, NoMemory>
+fn run(
+    alloc: Global,
+    journal: &mut History,
+    tables: &mut Vec<StoredTable>,
+    given: Given,
+    statement: &Statement,
+) -> Result<Ended, NoMemory>
     requires { AreSound 0 (length (past_of journal.old)) tables.old.items }
     ensures ok { IfOk result (λ ended. IsAfter ended given.session given.block statement.now (past_of journal.old) (past_of journal.new) tables.old.items tables.new.items) }
     ensures err { OnErr result (IsBefore (past_of journal.old) (past_of journal.new) tables.old.items tables.new.items) }
 {
     match statement {
-        Statement::CreateTable { table, columns } => create_table(alloc, journal, tables, given, table, columns),
+        Statement::CreateTable { table, columns } => create_table(
+            alloc, journal, tables, given, table, columns,
+        ),
         Statement::Insert { table, values } => insert(alloc, journal, tables, given, table, values),
         Statement::Select { table } => select(alloc, journal, tables, given, table),
-        Statement::AddColumn { table, column } => add_column(alloc, journal, tables, given, table, column),
+        Statement::AddColumn { table, column } => add_column(
+            alloc, journal, tables, given, table, column,
+        ),
     }
 }

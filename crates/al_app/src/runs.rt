@@ -14,7 +14,13 @@ use al_values::{ListOf, NoMemory};
 use std::alloc::Global;
 
 /// Gives the block of this number, if it is one of the setup part.
-fn run_setup_block(alloc: Global, engine: &mut Engine, spec: &Spec, number: u32, block: &Block) -> Result<Ended, NoMemory>
+fn run_setup_block(
+    alloc: Global,
+    engine: &mut Engine,
+    spec: &Spec,
+    number: u32,
+    block: &Block,
+) -> Result<Ended, NoMemory>
     requires runnable { IsRunnable spec.now engine.old.scripts }
     requires there { slice_get spec.now.blocks number ≡ Some block.now }
     requires so_far { SetupSoFar spec.now engine.old number }
@@ -97,7 +103,13 @@ fn close_sessions(engine: &mut Engine, first: u32, end: u32) -> Result<(), NoMem
 
 /// Ends a run whose setup part ended so: the steps and then the closes, the control session's last, or, where the setup
 /// part failed, all closes in ascending order.
-fn finish(alloc: Global, engine: &mut Engine, spec: &Spec, setup: Setup, steps: &[u32]) -> Result<(), NoMemory>
+fn finish(
+    alloc: Global,
+    engine: &mut Engine,
+    spec: &Spec,
+    setup: Setup,
+    steps: &[u32],
+) -> Result<(), NoMemory>
     requires runnable { IsRunnable spec.now engine.old.scripts }
     requires sessions { engine.old.scripts.sessions ≡ length spec.now.sessions + 1 }
     requires countable { length spec.now.sessions + 1 < 2 ^ 32 }
@@ -120,7 +132,13 @@ fn finish(alloc: Global, engine: &mut Engine, spec: &Spec, setup: Setup, steps: 
 }
 
 /// Runs one permutation from an empty database.
-pub fn run_permutation(alloc: Global, spec: &Spec, scripts: Scripts, number: u32, steps: &[u32]) -> Result<Run, NoMemory>
+pub fn run_permutation(
+    alloc: Global,
+    spec: &Spec,
+    scripts: Scripts,
+    number: u32,
+    steps: &[u32],
+) -> Result<Run, NoMemory>
     requires runnable { IsRunnable spec.now scripts }
     requires sessions { scripts.sessions ≡ length spec.now.sessions + 1 }
     requires countable { length spec.now.sessions + 1 < 2 ^ 32 }

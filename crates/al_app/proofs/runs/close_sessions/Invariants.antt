@@ -1,4 +1,4 @@
-use Rattle.std.proofs.Common.{◌-◌, ◌≤◌}
+use Rattle.std.proofs.Common.{◌-◌}
 use Rattle.al_app.specs.Ran.{Rests}
 use Rattle.al_app.specs.Runs.{SessionsClosed}
 use Rattle.al_app.proofs.runs.close_sessions.Given as goal

@@ -1,4 +1,4 @@
-use Rattle.std.proofs.Common.{rules, arith, ◌≡◌, ◌+◌, ◌-◌, length}
+use Rattle.std.proofs.Common.{arith, ◌≡◌, ◌+◌, ◌-◌, length}
 use Rattle.al_history.specs.declared.run.Setup.TheVariants as setups
 use Rattle.al_app.specs.Runs.{SetupRan}
 use Rattle.al_app.proofs.RunLemmas.{control_open, ends_done, on_ok}

@@ -1,6 +1,5 @@
 use Rattle.std.proofs.Common.{rules}
-use Rattle.std.proofs.lemmas.Option.{slice_get-get_or}
-use Rattle.al_app.proofs.RunLemmas.{may_give_at, steps_go_on}
+use Rattle.al_app.proofs.RunLemmas.{may_give_at}
 use Rattle.al_app.proofs.runs.run_steps.Goals as goal
 
 pub step-requires : goal.step-requires

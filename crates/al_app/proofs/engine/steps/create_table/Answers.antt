@@ -1,5 +1,4 @@
-use Rattle.std.proofs.Common.{◌≡◌, refl, rules, arith}
-use Rattle.std.proofs.lemmas.Grind.{common_steps}
+use Rattle.std.proofs.Common.{refl, rules}
 use Rattle.al_app.proofs.AfterLemmas.{refused_after, create_after}
 use Rattle.al_app.proofs.engine.steps.create_table.Goals as goal
 
