@@ -345,7 +345,7 @@ reads scripts past look s block x name t db p looked free there =
     (rw (p.session_is, p.look_is) (λ table used. tt))
     p.latest_is
 
-pub alters : (scripts : Scripts) (past look : Past) (s block x : ℕ) (name : List ℕ) (column : Column) (t : Table) (db : Database) → InStep scripts past s block x (statements.AddColumn name column) (Some look) db → cause_of scripts past s ≡ None → named db name ≡ Some t → Passes (alteration column t) t db → Acted scripts (Alter x t.number 0 [] ∷ past) s block x (statements.AddColumn name column) (length past ∷ []) (altered (Some (statements.AddColumn name column)) t.number db)
+pub alters : (scripts : Scripts) (past look : Past) (s block x : ℕ) (name : List ℕ) (column : Column) (t : Table) (db : Database) → InStep scripts past s block x (statements.AddColumn name column) (Some look) db → cause_of scripts past s ≡ None → named db name ≡ Some t → Passes (alteration column t) (altered (Some (statements.AddColumn t.name column)) t.number db) → Acted scripts (Alter x t.number 0 [] ∷ past) s block x (statements.AddColumn name column) (length past ∷ []) (altered (Some (statements.AddColumn name column)) t.number db)
 alters scripts past look s block x name column t db p free there shaped =
     let statement : Statement = statements.AddColumn name column in
     let same_x : (x == x) ≡ true = if_same x in

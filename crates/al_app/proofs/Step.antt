@@ -9,7 +9,7 @@ use Rattle.al_history.specs.declared.statement.Statement.TheVariants as statemen
 use Rattle.al_history.specs.declared.statement.Scripts.{Scripts}
 use Rattle.al_history.specs.Past.{Past}
 use Rattle.al_history.specs.Database.{Table, Database, named}
-use Rattle.al_history.specs.Change.{Alteration, alteration, Passes}
+use Rattle.al_history.specs.Change.{Alteration, alteration, altered, Passes}
 use Rattle.al_history.specs.View.{latest}
 use Rattle.al_history.specs.Cause.{cause_of, name_cause, look_cause, refusal}
 use Rattle.al_app.specs.Rest.{IsAtRest}
@@ -22,9 +22,9 @@ found None cause e = absurd cc
 found (Some t) cause e = (t, refl)
 
 -- what isn't refused passes its tests
-passes : (r : Result Alteration Cause) (t : Table) (db : Database) → refusal r ≡ None → Passes r t db
-passes (Ok alteration) t db e = λ c tested. absurd c.demand
-passes (Err cause) t db e = absurd cc
+passes : (r : Result Alteration Cause) (after : Database) → refusal r ≡ None → Passes r after
+passes (Ok alteration) after e = λ c tested t there same. absurd c.demand
+passes (Err cause) after e = absurd cc
 
 module _ (scripts : Scripts) (past : Past) (s block : ℕ) (db : Database) where
   -- the past at the statement's Look, and with it
@@ -46,7 +46,7 @@ module _ (scripts : Scripts) (past : Past) (s block : ℕ) (db : Database) where
   is_done (statements.AddColumn name column) p looked known free =
       let none : cause_of scripts (Look (xact_next past) ∷ begun s block past) s ≡ None = cause_in_step scripts _ s block (xact_next past) _ _ db p ∙ rw looked free in
       let there = found (named db name) (causes.NoTable name) known in
-      let tested : Passes (alteration column there.0) there.0 db = passes (alteration column there.0) there.0 db (rw there.1 at free) in
+      let tested : Passes (alteration column there.0) (altered (Some (statements.AddColumn there.0.name column)) there.0.number db) = passes (alteration column there.0) _ (rw there.1 at free) in
       rw there.1 (ends scripts _ s block (xact_next past) _ _ _ _ (alters scripts _ _ s block (xact_next past) name column there.0 db p none there.1 tested) refl)
 
   by_look : (statement : Statement) (cause : Option Cause) → InStep scripts (Look (xact_next past) ∷ begun s block past) s block (xact_next past) statement (Some (begun s block past)) db → latest scripts (begun s block past) (xact_next past) ≡ db → name_cause statement db ≡ None → look_cause statement [] db db ≡ cause → IsAtRest scripts (past_by_look s block statement past db cause) (unless cause (changed statement (act_place past) db) db)

@@ -11,6 +11,7 @@ use Rattle.al_history.specs.declared.spec.SpecFault.TheVariants as faults
 use Rattle.al_history.specs.declared.statement.Scripts.{Scripts}
 use Rattle.al_history.specs.Whole.{AreRuns}
 use Rattle.al_outside.specs.Holding.{Held, Grows, GrowsByFront}
+use Rattle.al_outside.specs.Reading.{IsReadPast}
 use Rattle.al_app.specs.declared.status.Status.{Status}
 use Rattle.al_app.specs.declared.status.Status.TheVariants as statuses
 use Rattle.al_app.specs.First.{IsFirst}
@@ -51,12 +52,14 @@ abbrev pub status_of : Option ℕ → Status
 status_of None = statuses.Done
 status_of (Some run) = statuses.SetupFailed run
 
--- The input was read as this spec file, its permutations were run, and the text is the report of just these runs. What
--- a source doesn't tell of its bytes is left open.
+-- An input was read as this spec file, its permutations were run, and the text is the report of just these runs. Where
+-- the source tells its bytes, that is the input.
 pub record HasRun (told : Option (List ℕ)) (runs : List Run) (text : List ℕ) : Type 0 where
+  pub input : List ℕ
   pub spec : Spec
   pub scripts : Scripts
-  pub read : IfSome told (λ input. IsFirst input spec scripts)
+  pub tells : IfSome told (λ bytes. bytes ≡ input)
+  pub read : IsFirst input spec scripts
   pub are_runs : AreRuns spec scripts runs
   pub printed : text ≡ report spec runs
 
@@ -76,35 +79,45 @@ Comes words told read_failed runs text statuses.ReadFault = (bad_word words ≡ 
 Comes words told read_failed runs text statuses.NoMemory = (runs ≡ []) × (text ≡ [])
 Comes words told read_failed runs text statuses.WriteFault = ⊥
 
--- The sink holds the text of the status; at a write fault it counted a fault, and holds a front of the text of the
--- status that would have come.
+-- where the input was read for a status: to its end, or past the most bytes of the form; not at all for bad words
+abbrev pub IsReadFor : Option (List ℕ) → Option (List ℕ) → Status → Type 0
+IsReadFor told left statuses.Done = IsAtEnd left
+IsReadFor told left (statuses.SetupFailed run) = IsAtEnd left
+IsReadFor told left (statuses.SpecFault fault) = IsAtEnd left ⊎ IsReadPast 65536 told left
+IsReadFor told left (statuses.Usage word) = left ≡ told
+IsReadFor told left status = Unit {0}
+
+-- the statuses for which a text is written
+abbrev pub Writes : Status → Type 0
+Writes statuses.Done = Unit {0}
+Writes (statuses.SetupFailed run) = Unit {0}
+Writes (statuses.SpecFault fault) = Unit {0}
+Writes (statuses.Usage word) = Unit {0}
+Writes status = ⊥
+
+-- The sink holds the text of the status.
 pub record IsWritten (words : List (List ℕ)) (told : Option (List ℕ)) (read_failed : Type 0) (old new : Held) (runs : List Run) (status : Status) : Type 0 where
   pub text : List ℕ
   pub comes : Comes words told read_failed runs text status
   pub grows : Grows old new text
 
-pub record IsCutOff (words : List (List ℕ)) (told : Option (List ℕ)) (read_failed write_failed : Type 0) (old new : Held) (runs : List Run) : Type 0 where
+-- The sink counted a fault, and holds a front of the text of the status that would have come.
+pub record IsCutOff (words : List (List ℕ)) (told left : Option (List ℕ)) (read_failed write_failed : Type 0) (old new : Held) (runs : List Run) : Type 0 where
   pub wanted : Status
+  pub writes : Writes wanted
   pub text : List ℕ
   pub comes : Comes words told read_failed runs text wanted
+  pub read : IsReadFor told left wanted
   pub failed : write_failed
   pub grows : GrowsByFront old new text
 
-abbrev pub IsAnswer : List (List ℕ) → Option (List ℕ) → Type 0 → Type 0 → Held → Held → List Run → Status → Type 0
-IsAnswer words told read_failed write_failed old new runs statuses.WriteFault = IsCutOff words told read_failed write_failed old new runs
-IsAnswer words told read_failed write_failed old new runs status = IsWritten words told read_failed old new runs status
+abbrev pub IsAnswer : List (List ℕ) → Option (List ℕ) → Option (List ℕ) → Type 0 → Type 0 → Held → Held → List Run → Status → Type 0
+IsAnswer words told left read_failed write_failed old new runs statuses.WriteFault = IsCutOff words told left read_failed write_failed old new runs
+IsAnswer words told left read_failed write_failed old new runs status = IsWritten words told read_failed old new runs status
 
--- where the input was read for a status: to its end, or past the most bytes of the form
-abbrev pub IsReadFor : Option (List ℕ) → Option (List ℕ) → Status → Type 0
-IsReadFor told left statuses.Done = IsAtEnd left
-IsReadFor told left (statuses.SetupFailed run) = IsAtEnd left
-IsReadFor told left (statuses.SpecFault fault) = IsAtEnd left ⊎ IfSome told (λ input. 65536 < length input)
-IsReadFor told left (statuses.Usage word) = left ≡ told
-IsReadFor told left status = Unit {0}
-
--- the journals in a list of runs are those of whole runs of one spec file, for every status
+-- the journals in a list of runs are those of whole runs of one spec file that was read, for every status
 abbrev pub AreLegal : List Run → Type 0
-AreLegal runs = (runs ≡ []) ⊎ ((spec : Spec) × (scripts : Scripts) × AreRuns spec scripts runs)
+AreLegal runs = (runs ≡ []) ⊎ ((input : List ℕ) × (spec : Spec) × (scripts : Scripts) × IsFirst input spec scripts × AreRuns spec scripts runs)
 
 -- a run was made, or memory was wanting
 abbrev pub HasRunOrNoMemory : Status → Type 0

@@ -7,6 +7,7 @@ use Rattle.al_values.specs.declared.cant.Cant.TheVariants as cants
 use Rattle.al_history.specs.declared.spec.Spec.{Spec}
 use Rattle.al_history.specs.declared.spec.SpecFault.{SpecFault}
 use Rattle.al_history.specs.declared.statement.Scripts.{Scripts}
+use Rattle.al_outside.specs.Reading.{IsReadPast}
 use Rattle.al_app.specs.declared.top.Stop.{Stop}
 use Rattle.al_app.specs.declared.top.Stop.TheVariants as stops
 use Rattle.al_app.specs.FirstShape.{IsStepAt}
@@ -30,6 +31,6 @@ IsFaultOf bytes cants.NoMemory = Unit {0}
 
 -- why a source's bytes were not run
 abbrev pub StopsFor : Option (List ℕ) → Option (List ℕ) → Type 0 → Stop → Type 0
-StopsFor told left failed (stops.Spec fault) = IfSome told IsNotFirst × (IsAtEnd left ⊎ IfSome told (λ input. 65536 < length input))
+StopsFor told left failed (stops.Spec fault) = IfSome told IsNotFirst × (IsAtEnd left ⊎ IsReadPast 65536 told left)
 StopsFor told left failed stops.Fault = failed
 StopsFor told left failed stops.NoMemory = Unit {0}

@@ -52,7 +52,7 @@ pub fn answer_alone<S: Source, K: Sink>(
     sink: &mut K,
 ) -> Answer
     // The status, the runs and what was written belong together.
-    ensures answer { IsAnswer words.now (S.left source.old) (Rose (S.faults source.old) (S.faults source.new)) (Rose (K.faults sink.old) (K.faults sink.new)) (K.held sink.old) (K.held sink.new) result.runs result.status }
+    ensures answer { IsAnswer words.now (S.left source.old) (S.left source.new) (Rose (S.faults source.old) (S.faults source.new)) (Rose (K.faults sink.old) (K.faults sink.new)) (K.held sink.old) (K.held sink.new) result.runs result.status }
     // Where the input was read.
     ensures read { IsReadFor (S.left source.old) (S.left source.new) result.status }
     // Each journal is a legal history of a whole run, for every status.
@@ -84,7 +84,7 @@ pub fn answer<R: Threads + Wait + Sync, S: Source, K: Sink, G: Gate + Sync>(
     sink: &mut K,
     gate: &G,
 ) -> Answer
-    ensures answer { IsAnswer words.now (S.left source.old) (Rose (S.faults source.old) (S.faults source.new)) (Rose (K.faults sink.old) (K.faults sink.new)) (K.held sink.old) (K.held sink.new) result.runs result.status }
+    ensures answer { IsAnswer words.now (S.left source.old) (S.left source.new) (Rose (S.faults source.old) (S.faults source.new)) (Rose (K.faults sink.old) (K.faults sink.new)) (K.held sink.old) (K.held sink.new) result.runs result.status }
     ensures read { IsReadFor (S.left source.old) (S.left source.new) result.status }
     ensures legal { AreLegal result.runs }
     ensures complete { IsComplete words.now (S.left source.old) (Rose (S.faults source.old) (S.faults source.new)) (Rose (K.faults sink.old) (K.faults sink.new)) result.status }

@@ -1,5 +1,5 @@
 -- What CREATE TABLE, INSERT and ALTER TABLE do to a database (CREATE TABLE, INSERT, ALTER TABLE in Part VI).
-use Rattle.std.specs.Prelude.{ℕ, List, [], ◌∷◌, ◌++◌, ◌==◌, not, cond, ◌||◌, ◌&&◌, map, length, drop, Option, Some, Result, Ok, Err, is_some, Contains}
+use Rattle.std.specs.Prelude.{◌≡◌, ℕ, List, [], ◌∷◌, ◌++◌, ◌==◌, not, cond, ◌||◌, ◌&&◌, map, length, drop, Option, Some, Result, Ok, Err, is_some, Contains}
 use Rattle.al_values.specs.declared.scalar.Value.{Value}
 use Rattle.al_values.specs.declared.scalar.Value.TheVariants as values
 use Rattle.al_history.specs.declared.entry.Cause.{Cause}
@@ -51,7 +51,7 @@ abbrev pub altered : Option Statement → ℕ → Database → Database
 altered (Some (statements.AddColumn name column)) number db = with_table number (λ t. after_alteration (alteration column t) t) db
 altered other number db = db
 
--- every test holds of the table as it will be
-abbrev pub Passes : Result Alteration Cause → Table → Database → Type 0
-Passes (Err cause) t db = ⊥
-Passes (Ok alteration) t db = (c : Constraint) → Contains alteration.tests c → Holds c.demand (after_alteration (Ok alteration) t) db
+-- every test holds of its table in the database as it will be
+abbrev pub Passes : Result Alteration Cause → Database → Type 0
+Passes (Err cause) after = ⊥
+Passes (Ok alteration) after = (c : Constraint) → Contains alteration.tests c → (t : Table) → Contains after t → t.number ≡ c.table → Holds c.demand t after

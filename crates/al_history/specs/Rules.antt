@@ -19,7 +19,7 @@ use Rattle.al_history.specs.Past.{Past}
 use Rattle.al_history.specs.Database.{Table, Database, named}
 use Rattle.al_history.specs.Hand.{hand, dones, refused, in_hand, xact_of, implicit_of, session_of, look_of, acts_of, closed}
 use Rattle.al_history.specs.Query.{column_names, answer}
-use Rattle.al_history.specs.Change.{shape_of, filled, alteration, Passes}
+use Rattle.al_history.specs.Change.{shape_of, filled, alteration, altered, Passes}
 use Rattle.al_history.specs.View.{latest}
 use Rattle.al_history.specs.Cause.{cause_of}
 
@@ -94,7 +94,7 @@ pub record ReadRule (scripts : Scripts) (past : Past) (x : ℕ) (names : List (L
 -- table
 abbrev pub IsAltered : Option Table → Column → Database → ℕ → Type 0
 IsAltered None column db table = ⊥
-IsAltered (Some t) column db table = (table ≡ t.number) × Passes (alteration column t) t db
+IsAltered (Some t) column db table = (table ≡ t.number) × Passes (alteration column t) (altered (Some (statements.AddColumn t.name column)) table db)
 
 abbrev pub Alters : Option Statement → Database → ℕ → Type 0
 Alters (Some (statements.AddColumn name column)) db table = IsAltered (named db name) column db table

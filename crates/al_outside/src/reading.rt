@@ -46,14 +46,14 @@ const READ_SIZE: usize = 8192;
 ///
 /// # Errors
 ///
-/// `TooLong` where more bytes were left, `Fault` where the source failed, and `NoMemory`.
+/// `TooLong` where more bytes were read, `Fault` where the source failed, and `NoMemory`.
 pub fn read_all<S: Source>(alloc: Global, limit: usize, source: &mut S) -> Result<Vec<u8>, NotRead>
     ensures all { IfOk result (λ text. IfSome (S.left source.old) (λ input. text.items ≡ input)) }
     ensures end { OnOk result (IsAtEnd (S.left source.new)) }
     ensures within { IfOk result (λ text. length text.items ≤ limit) }
     ensures consumed { IfOk result (λ text. Consumes (S.left source.old) (S.left source.new) text.items) }
     ensures faults { OnOk result (S.faults source.new ≡ S.faults source.old) }
-    ensures cause { IfErr result (NotReadFor limit (S.left source.old) (S.faults source.old) (S.faults source.new)) }
+    ensures cause { IfErr result (NotReadFor limit (S.left source.old) (S.left source.new) (S.faults source.old) (S.faults source.new)) }
     ensures none_lost { OnErr result (LosesFront (S.left source.old) (S.left source.new)) }
 {
     let mut buffer = vec![in alloc; 0; READ_SIZE]?;
@@ -73,7 +73,7 @@ fn read_by<S: Source>(
     ensures within { IfOk result (λ text. length text.items ≤ limit) }
     ensures consumed { IfOk result (λ text. Consumes (S.left source.old) (S.left source.new) text.items) }
     ensures faults { OnOk result (S.faults source.new ≡ S.faults source.old) }
-    ensures cause { IfErr result (NotReadFor limit (S.left source.old) (S.faults source.old) (S.faults source.new)) }
+    ensures cause { IfErr result (NotReadFor limit (S.left source.old) (S.left source.new) (S.faults source.old) (S.faults source.new)) }
     ensures none_lost { OnErr result (LosesFront (S.left source.old) (S.left source.new)) }
 {
     let mut text = Vec::new(alloc);
