@@ -1,4 +1,4 @@
-use super::read_first;
+use al_app::read_first;
 use al_history::{Part, Scripts, Spec, SpecFault, Statement};
 use al_values::{Cant, Value};
 use std::alloc::{AllocError, Global};
