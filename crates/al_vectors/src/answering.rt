@@ -397,32 +397,53 @@ fn refuses_other_words(rt: HostRuntime) -> Result<(), Fail> {
     Ok(())
 }
 
-#[test]
-fn fails_where_the_outside_fails(rt: HostRuntime) -> Result<(), Fail> {
-    let alloc = rt.alloc();
+// The answer to `run` over a source and a sink.
+fn run(
+    alloc: Global,
+    source: &mut MemorySource,
+    sink: &mut MemorySink,
+) -> Result<Answer, NoMemory> {
     let words = words_of(alloc, &["run"])?;
-    let report = ADDS_REPORT.as_bytes();
+    Ok(answer_alone(alloc, &words, source, sink))
+}
 
+// Whether a sink holds a front of the report, of 1 to so many bytes.
+fn holds_front(sink: &MemorySink, most: usize) -> bool {
+    let held = sink.held();
+    !held.is_empty() && held.len() <= most && ADDS_REPORT.as_bytes().starts_with(held)
+}
+
+#[test]
+fn keeps_the_run_where_the_sink_fails(rt: HostRuntime) -> Result<(), Fail> {
+    let alloc = rt.alloc();
     let mut source = source_of(alloc, ADDS.as_bytes())?;
     let mut sink = MemorySink::new(Room8::new(alloc, 4_096)?, 64, second_call(alloc)?);
-    let answer = answer_alone(alloc, &words, &mut source, &mut sink);
+    let answer = run(alloc, &mut source, &mut sink)?;
     assert_eq!(rt; answer.status, Status::WriteFault);
     assert_eq!(rt; answer.runs.len(), 1);
-    let held = sink.held();
-    assert!(rt; !held.is_empty() && held.len() <= 64 && report.starts_with(held));
+    assert!(rt; holds_front(&sink, 64));
+    Ok(())
+}
 
-    // A sink with too little room.
+#[test]
+fn fills_a_small_sink(rt: HostRuntime) -> Result<(), Fail> {
+    let alloc = rt.alloc();
     let mut source = source_of(alloc, ADDS.as_bytes())?;
     let mut sink = MemorySink::new(Room8::new(alloc, 100)?, 64, CallList::new(alloc));
-    let answer = answer_alone(alloc, &words, &mut source, &mut sink);
+    let answer = run(alloc, &mut source, &mut sink)?;
     assert_eq!(rt; answer.status, Status::WriteFault);
-    let held = sink.held();
-    assert!(rt; held.len() == 100 && report.starts_with(held));
+    assert_eq!(rt; sink.held().len(), 100);
+    assert!(rt; holds_front(&sink, 100));
+    Ok(())
+}
 
+#[test]
+fn writes_nothing_where_the_source_fails(rt: HostRuntime) -> Result<(), Fail> {
+    let alloc = rt.alloc();
     let bytes = Txt8::from_vec(ADDS.as_bytes().to_vec(alloc)?);
     let mut source = MemorySource::new(bytes, 10, second_call(alloc)?);
     let mut sink = sink_of(alloc)?;
-    let answer = answer_alone(alloc, &words, &mut source, &mut sink);
+    let answer = run(alloc, &mut source, &mut sink)?;
     assert_eq!(rt; answer.status, Status::ReadFault);
     assert_eq!(rt; answer.runs.len(), 0);
     assert_eq!(rt; sink.held().len(), 0);
