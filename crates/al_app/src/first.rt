@@ -18,9 +18,6 @@ use al_values::Cant;
 use file::first_of;
 use std::alloc::Global;
 
-#[cfg(test)]
-mod tests;
-
 /// The spec file that bytes spell, of the first form, and the statements of its blocks (src/test/isolation/README).
 /// NotYet comes exactly where the bytes aren't of that form, NoMemory where no memory was to be had.
 pub fn read_first(alloc: Global, bytes: &[u8]) -> Result<(Spec, Scripts), Cant<SpecFault>>

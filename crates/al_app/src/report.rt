@@ -265,6 +265,3 @@ fn push_runs(text: &mut String, spec: &Spec, runs: &[Run]) -> Result<(), NoMemor
     }
     Ok(())
 }
-
-#[cfg(test)]
-mod tests;

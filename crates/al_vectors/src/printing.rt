@@ -1,6 +1,7 @@
-use super::*;
-use al_history::{Column, History, Level};
-use al_values::{ListOf, Txt};
+use al_app::print;
+use al_history::{Block, Cause, Column, Entry, History, Level, Part, Reply, Run, Setup, Spec, Tag};
+use al_values::{ListOf, NoMemory, Txt, Value};
+use std::alloc::Global;
 use std::test::Fail;
 
 fn make_block(alloc: Global, part: Part, name: &str, text: &str) -> Result<Block, NoMemory> {
@@ -162,54 +163,54 @@ fn prints_a_run(rt: HostRuntime) -> Result<(), Fail> {
     Ok(())
 }
 
-#[test]
-fn prints_a_failed_setup(rt: HostRuntime) -> Result<(), Fail> {
-    let alloc = rt.alloc();
+// The report of a run whose second setup block is refused.
+fn print_refused(alloc: Global, cause: Cause) -> Result<Txt, NoMemory> {
     let spec = make_spec(alloc, "CREATE TABLE t (b integer)")?;
     let mut history = History::new(alloc);
     create(alloc, &mut history)?;
     let xact = begin(&mut history, 0, 1)?;
-    let name = Txt::new(alloc, "t")?;
-    let cause = Cause::TwiceTable { name };
     put(&mut history, Entry::Refuse { session: 0, cause })?;
     put(&mut history, Entry::Abort { xact })?;
     put(&mut history, Entry::End { session: 0 })?;
-    let text = print_run(alloc, &spec, Setup::Failed { block: 1 }, history)?;
-    let wanted = "Parsed test spec with 1 sessions\n\
-        \n\
-        starting permutation: add sel\n\
-        setup 1\n\
-        CREATE TABLE\n\
-        setup 2\n\
-        ERROR: 42P07: table \"t\" already exists\n\
-        setup failed\n";
-    assert_eq!(rt; text.as_str(), wanted);
-    Ok(())
-}
-
-fn cause_line(alloc: Global, cause: &Cause) -> Result<String, NoMemory> {
-    let mut text = String::new(alloc);
-    push_cause(&mut text, cause)?;
-    Ok(text)
+    print_run(alloc, &spec, Setup::Failed { block: 1 }, history)
 }
 
 #[test]
-fn prints_each_cause(rt: HostRuntime) -> Result<(), Fail> {
+fn prints_a_failed_setup(rt: HostRuntime) -> Result<(), Fail> {
     let alloc = rt.alloc();
-    let name = Txt::new(alloc, "t")?;
-    let missing = cause_line(alloc, &Cause::NoTable { name })?;
-    let name = Txt::new(alloc, "t")?;
-    let table = cause_line(alloc, &Cause::TwiceTable { name })?;
-    let name = Txt::new(alloc, "b")?;
-    let column = cause_line(alloc, &Cause::TwiceColumn { name })?;
-    let count = cause_line(alloc, &Cause::Count { want: 2, got: 3 })?;
-    for (line, wanted) in [
-        (missing.as_str(), "42P01: table \"t\" does not exist"),
-        (table.as_str(), "42P07: table \"t\" already exists"),
-        (column.as_str(), "42701: column \"b\" already exists"),
-        (count.as_str(), "42601: INSERT has 3 values for 2 columns"),
+    let missing = Txt::new(alloc, "t")?;
+    let table = Txt::new(alloc, "t")?;
+    let column = Txt::new(alloc, "b")?;
+    for (cause, line) in [
+        (
+            Cause::NoTable { name: missing },
+            "42P01: table \"t\" does not exist",
+        ),
+        (
+            Cause::TwiceTable { name: table },
+            "42P07: table \"t\" already exists",
+        ),
+        (
+            Cause::TwiceColumn { name: column },
+            "42701: column \"b\" already exists",
+        ),
+        (
+            Cause::Count { want: 2, got: 3 },
+            "42601: INSERT has 3 values for 2 columns",
+        ),
     ] {
-        assert_eq!(rt; line, wanted);
+        let text = print_refused(alloc, cause)?;
+        let wanted = format!(in alloc;
+            "Parsed test spec with 1 sessions\n\
+            \n\
+            starting permutation: add sel\n\
+            setup 1\n\
+            CREATE TABLE\n\
+            setup 2\n\
+            ERROR: {line}\n\
+            setup failed\n"
+        )?;
+        assert_eq!(rt; text.as_str(), wanted.as_str());
     }
     Ok(())
 }

@@ -1,5 +1,5 @@
-use super::read_first;
-use al_history::{Part, Scripts, Spec, SpecFault, Statement};
+use al_app::read_first;
+use al_history::{Block, ScriptBlock, Scripts, Spec, SpecFault, Statement};
 use al_values::{Cant, Value};
 use std::alloc::{AllocError, Global};
 use std::test::Fail;
@@ -212,54 +212,53 @@ fn read(alloc: Global, text: &str) -> Result<(Spec, Scripts), Fail> {
     }
 }
 
+// A block's part, session, name and text, then its script's session, length and first statement.
+fn described(alloc: Global, block: &Block, script: &ScriptBlock) -> Result<String, Fail> {
+    let one = script.script.get(0).ok_or("a statement")?;
+    let statement = printed(alloc, one)?;
+    let part = block.part;
+    let text = format!(in alloc;
+        "{part:?} {} [{}] [{}] {} {} {statement}",
+        block.session,
+        block.name,
+        block.text,
+        script.session,
+        script.script.len()
+    )?;
+    Ok(text)
+}
+
 #[test]
-fn parts(rt: HostRuntime) -> Result<(), Fail> {
+fn blocks(rt: HostRuntime) -> Result<(), Fail> {
     let (spec, scripts) = read(rt.alloc(), ADDS)?;
-    let wanted = [
-        (
-            Part::Setup,
-            0,
-            "",
-            "CREATE TABLE t (a integer)",
-            "create t a",
-        ),
-        (
-            Part::Setup,
-            0,
-            "",
-            "INSERT INTO t VALUES (1)",
-            "insert t Int(1)",
-        ),
-        (
-            Part::Step,
-            1,
-            "add",
-            "ALTER TABLE t ADD COLUMN b integer DEFAULT 5;",
-            "add t b 5",
-        ),
-        (Part::Step, 1, "sel", "SELECT * FROM t;", "select t"),
-    ];
+    assert_eq!(rt; spec.blocks.len(), 4);
+    assert_eq!(rt; scripts.blocks.len(), 4);
+    for (number, wanted) in [
+        "Setup 0 [] [CREATE TABLE t (a integer)] 0 1 create t a",
+        "Setup 0 [] [INSERT INTO t VALUES (1)] 0 1 insert t Int(1)",
+        "Step 1 [add] [ALTER TABLE t ADD COLUMN b integer DEFAULT 5;] 1 1 add t b 5",
+        "Step 1 [sel] [SELECT * FROM t;] 1 1 select t",
+    ]
+    .into_iter()
+    .enumerate()
+    {
+        let block = spec.blocks.get(number).ok_or("a block")?;
+        let script = scripts.blocks.get(number).ok_or("a script")?;
+        let text = described(rt.alloc(), block, script)?;
+        assert_eq!(rt; text.as_str(), wanted);
+    }
+    Ok(())
+}
+
+#[test]
+fn sessions_and_permutations(rt: HostRuntime) -> Result<(), Fail> {
+    let (spec, scripts) = read(rt.alloc(), ADDS)?;
+    assert_eq!(rt; scripts.sessions, 2);
     assert_eq!(rt; spec.sessions.len(), 1);
     assert_eq!(rt; spec.sessions.get(0).ok_or("one")?.as_str(), "s1");
     assert_eq!(rt; spec.permutations.len(), 1);
     let numbers = spec.permutations.get(0).ok_or("one")?;
     assert_eq!(rt; numbers.as_slice(), [2, 3].as_slice());
-    assert_eq!(rt; scripts.sessions, 2);
-    assert_eq!(rt; spec.blocks.len(), 4);
-    assert_eq!(rt; scripts.blocks.len(), 4);
-    for (number, (part, session, name, text, statement)) in wanted.into_iter().enumerate() {
-        let block = spec.blocks.get(number).ok_or("a block")?;
-        assert_eq!(rt; block.part, part);
-        assert_eq!(rt; block.session, session);
-        assert_eq!(rt; block.name.as_str(), name);
-        assert_eq!(rt; block.text.as_str(), text);
-        let script = scripts.blocks.get(number).ok_or("a script")?;
-        assert_eq!(rt; script.session, session);
-        assert_eq!(rt; script.script.len(), 1);
-        let one = script.script.get(0).ok_or("a statement")?;
-        let printed = printed(rt.alloc(), one)?;
-        assert_eq!(rt; printed.as_str(), statement);
-    }
     Ok(())
 }
 
