@@ -1,5 +1,5 @@
 -- From what was read to what is answered.
-use Rattle.std.proofs.Common.{◌≡◌, ℕ, zero, suc, ◌<◌, List, [], ◌∷◌, length, drop, get_or, refl, sym, subst, Option, Some, None, Result, Ok, Err, IfSome, arith, ◌∙◌, ◌++◌, ◌+◌, length-append, ap}
+use Rattle.std.proofs.Common.{◌≡◌, ℕ, zero, suc, ◌<◌, List, [], ◌∷◌, length, drop, get_or, refl, sym, subst, Option, Some, None, Result, Ok, Err, IfSome, arith, ◌∙◌}
 use Rattle.al_values.specs.declared.cant.Cant.{Cant}
 use Rattle.al_values.specs.declared.cant.Cant.TheVariants as cants
 use Rattle.al_values.specs.Gives.{GivesUnlessNoMemory}
@@ -8,7 +8,6 @@ use Rattle.al_history.specs.declared.run.Setup.TheVariants as setups
 use Rattle.al_history.specs.declared.spec.Spec.{Spec}
 use Rattle.al_history.specs.declared.spec.SpecFault.{SpecFault}
 use Rattle.al_history.specs.declared.statement.Scripts.{Scripts}
-use Rattle.al_outside.specs.Reading.{IsReadPast}
 use Rattle.al_app.specs.First.{IsFirst}
 use Rattle.al_app.specs.Answers.{failed_first, IsNotFirst, HasRun}
 use Rattle.al_app.specs.Top.{IsFaultOf}
@@ -34,13 +33,3 @@ told_none (Some input) bytes same none = subst IsNotFirst same none
 pub told_run : (told : Option (List ℕ)) (bytes : List ℕ) (runs : List Run) (text : List ℕ) → IfSome told (λ input. bytes ≡ input) → HasRun (Some bytes) runs text → HasRun told runs text
 told_run None bytes runs text same run = record { input = run.input; spec = run.spec; scripts = run.scripts; tells = tt; read = run.read; are_runs = run.are_runs; printed = run.printed }
 told_run (Some input) bytes runs text same run = record { input = run.input; spec = run.spec; scripts = run.scripts; tells = sym same ∙ run.tells; read = run.read; are_runs = run.are_runs; printed = run.printed }
-
--- an input of which more was read than the form allows isn't of it
-pub past_none : (told left : Option (List ℕ)) → IsReadPast 65536 told left → IfSome told IsNotFirst
-past_none None left past = tt
-past_none (Some input) None past = absurd past.1
-past_none (Some input) (Some rest) past = λ spec scripts is.
-    let front : List ℕ = past.0 in
-    let cut : input ≡ past.0 ++ rest = past.1 in
-    let long : length input ≡ length past.0 + length rest = ap length cut ∙ length-append past.0 rest in
-    omega (arith, is.short, past.2, long)

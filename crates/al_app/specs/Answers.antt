@@ -1,5 +1,5 @@
 -- What a call of the program answers, and when.
-use Rattle.std.specs.Prelude.{◌≡◌, ℕ, List, [], ◌∷◌, ◌<◌, cond, Option, Some, None, IfSome, codes, length, ◌⊎◌}
+use Rattle.std.specs.Prelude.{◌≡◌, ℕ, List, [], ◌∷◌, cond, Option, Some, None, IfSome, codes, ◌⊎◌}
 use Rattle.std.specs.Io.KnownBytes.{IsAtEnd}
 use Rattle.std.specs.Str.{bytes_eq}
 use Rattle.al_history.specs.declared.run.Run.{Run}

@@ -1,5 +1,5 @@
 -- Why a source was not read whole.
-use Rattle.std.specs.Prelude.{ℕ, List, Option, IfSome, ◌≡◌, ◌<◌, ◌≤◌, length}
+use Rattle.std.specs.Prelude.{ℕ, List, Option, ◌≡◌, ◌<◌, ◌≤◌, length}
 use Rattle.std.specs.Io.KnownBytes.{Consumes}
 use Rattle.al_outside.specs.Faults.{Rose}
 use Rattle.al_outside.specs.declared.reading.NotRead.{NotRead}
