@@ -356,24 +356,27 @@ fn reports_a_failed_setup(rt: HostRuntime) -> Result<(), Fail> {
     Ok(())
 }
 
+fn blanks(alloc: Global, len: usize) -> Result<Vec<u8>, NoMemory> {
+    Ok(vec![in alloc; b' '; len]?)
+}
+
 #[test]
 fn refuses_other_bytes(rt: HostRuntime) -> Result<(), Fail> {
-    let blanks = vec![in rt.alloc(); b' '; 65_537]?;
-    let bytes = blanks.as_slice();
-    for (number, bytes) in [
+    let alloc = rt.alloc();
+    let fault = Status::SpecFault(SpecFault::NotYet);
+    for bytes in [
         b"".as_slice(),
-        b"setup { CREATE TABLE t (a integer) } session s\xff step x { SELECT * FROM t } permutation x".as_slice(),
+        b"setup { CREATE TABLE t (a integer) }\nsetup { INSERT INTO t VALUES (1) }\nsession s1\nstep add { ALTER TABLE".as_slice(),
+        b"session s\xff step x { SELECT * FROM t } permutation x".as_slice(),
         b"session s step x { SELECT * FROM t }\0 permutation x".as_slice(),
-        &ADDS.as_bytes()[..100],
-        bytes,
-        &bytes[..65_536],
-    ]
-    .into_iter()
-    .enumerate()
-    {
-        let fault = Status::SpecFault(SpecFault::NotYet);
-        let answer = answer_to(&rt, rt.alloc(), &["run"], bytes, fault, NOT_YET)?;
-        assert_eq!(rt; answer.runs.len(), 0, "{number}");
+    ] {
+        let answer = answer_to(&rt, alloc, &["run"], bytes, fault, NOT_YET)?;
+        assert_eq!(rt; answer.runs.len(), 0);
+    }
+    for len in [65_536, 65_537] {
+        let bytes = blanks(alloc, len)?;
+        let answer = answer_to(&rt, alloc, &["run"], &bytes, fault, NOT_YET)?;
+        assert_eq!(rt; answer.runs.len(), 0, "{len}");
     }
     Ok(())
 }
