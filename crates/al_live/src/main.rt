@@ -6,6 +6,7 @@ use al_app::answer;
 use al_outside::{OpenGate, StdSink, StdSource};
 use al_values::{NoMemory, Txt, Word};
 use std::alloc::Global;
+use std::io::ErrorKind;
 use std::process::ExitCode;
 use std::{env, io};
 
@@ -19,6 +20,7 @@ fn words_of(rt: &HostRuntime, alloc: Global) -> Result<Vec<Word>, NoMemory> {
                 words.push(Txt::from_string(word))?;
             }
         }
+        Err(error) if error.kind() == ErrorKind::OutOfMemory => return Err(NoMemory),
         Err(_) => words.push(Txt::new(alloc, "")?)?,
     }
     Ok(words)
