@@ -1,5 +1,5 @@
 -- What `retain` and `position` leave, by the words of the definitions.
-use Rattle.std.proofs.Common.{◌≡◌, ℕ, ◌≤◌, Bool, true, false, cond, List, [], ◌∷◌, length, filter, refl, ap, subst, ltb, arith, Option, Some, None, position}
+use Rattle.std.proofs.Common.{◌≡◌, ℕ, ◌≤◌, Bool, true, false, cond, List, [], ◌∷◌, length, filter, refl, ap, subst, ltb, arith, Some, None, position}
 use Rattle.std.specs.List.{items_where_true, position_or_len}
 use Rattle.std.specs.List.Retain.{IsFiltered, ReturnsInTurn}
 use Rattle.std.proofs.lemmas.Bool.{ltb-false}

@@ -2,7 +2,6 @@
 use Rattle.std.proofs.Common.{◌≡◌, ℕ, ◌<◌, ◌≤◌, ◌↔◌, IfSome, not, min, Bool, true, false, cond, ◌||◌, ◌&&◌, eqb, List, [], ◌∷◌, ◌++◌, refl, sym, ◌∙◌, ap, subst, arith, eq-eqb, ◌⊎◌, inl, inr, ⊎_elim, fold, Option, Some, None, append-nil, append_assoc}
 use Rattle.std.specs.List.{list_any}
 use Rattle.std.specs.Option.{option_map_or}
-use Rattle.std.proofs.lemmas.Grind.{common_steps}
 use Rattle.std.proofs.lemmas.Bool.{eqb-true, and_parts, or_left, or_right, or_cases, both_ways, cases_lt, not-true}
 use Rattle.std.proofs.lemmas.List.Folds.{list_any-append}
 use Rattle.al_queue.specs.declared.grant.Grant.{Grant}
@@ -46,7 +45,7 @@ of-any : (r : Grant) (xs : List Grant) (t : ℕ) → list_any (is_in_way_of t r)
 of-any r [] t e = e
 of-any r (x ∷ xs) t e =
     either (list_any (is_in_way r) (x ∷ xs) ≡ true) (is_in_way_of t r x) (list_any (is_in_way_of t r) xs)
-        (λ h. or_left (is_in_way r x) _ (and_parts (eqb x.session t) (is_in_way r x) h).1) (λ h. or_right (is_in_way r x) _ (of-any r xs t h)) e
+    (λ h. or_left (is_in_way r x) _ (and_parts (eqb x.session t) (is_in_way r x) h).1) (λ h. or_right (is_in_way r x) _ (of-any r xs t h)) e
 
 -- what was found among the locks of a list
 abbrev pub FoundAmong : Grant → List Grant → Option ℕ → Type 0
@@ -67,20 +66,20 @@ found-same of more any all e f (Some s) h = (e s ∙ h.0, λ t p. h.1 t (sym (e 
 found-push : (r : Grant) (xs : List Grant) (x : Grant) (found : Option ℕ) → FoundAmong r xs found → FoundAmong r (xs ++ x ∷ []) (lesser r found x)
 found-push r xs x found h =
     found-same _ _ _ _ (λ t. any-push (is_in_way_of t r) xs x) (any-push (is_in_way r) xs x) (lesser r found x)
-        (step_by (λ t. list_any (is_in_way_of t r) xs) (list_any (is_in_way r) xs) (of-any r xs) x.session (is_in_way r x) found h)
+    (step_by (λ t. list_any (is_in_way_of t r) xs) (list_any (is_in_way r) xs) (of-any r xs) x.session (is_in_way r x) found h)
 
 found-fold : (r : Grant) (xs ys : List Grant) (found : Option ℕ) → FoundAmong r xs found → FoundAmong r (xs ++ ys) (fold (lesser r) found ys)
 found-fold r xs [] found h = rw append-nil h
 found-fold r xs (y ∷ ys) found h =
     subst (λ (zs : List Grant). FoundAmong r zs (fold (lesser r) (lesser r found y) ys)) (append_assoc xs (y ∷ []) ys)
-        (found-fold r (xs ++ y ∷ []) ys (lesser r found y) (found-push r xs y found h))
+    (found-fold r (xs ++ y ∷ []) ys (lesser r found y) (found-push r xs y found h))
 
 -- what is found in two lists, one after the other
 pub found-both : (r : Grant) (held ahead : List Grant)
     → Found (λ t. list_any (is_in_way_of t r) held || list_any (is_in_way_of t r) ahead) (list_any (is_in_way r) held || list_any (is_in_way r) ahead) (fold (lesser r) (fold (lesser r) None held) ahead)
 found-both r held ahead =
     found-same _ _ _ _ (λ t. sym (list_any-append (is_in_way_of t r) held ahead)) (sym (list_any-append (is_in_way r) held ahead)) _
-        (found-fold r held ahead (fold (lesser r) None held) (found-fold r [] held None refl))
+    (found-fold r held ahead (fold (lesser r) None held) (found-fold r [] held None refl))
 
 none_by : (of : ℕ → Bool) (any : Bool) → ((t : ℕ) → of t ≡ true → any ≡ true) → (found : Option ℕ) → Found of any found → (found ≡ None) ↔ (not any ≡ true)
 none_by of any some None h = (λ _. rw h refl, λ _. refl)
@@ -93,7 +92,7 @@ least_found of any (Some s) h = h
 any-both : (r : Grant) (held ahead : List Grant) (t : ℕ) → makes_wait held ahead r t ≡ true → (list_any (is_in_way r) held || list_any (is_in_way r) ahead) ≡ true
 any-both r held ahead t =
     either _ (list_any (is_in_way_of t r) held) (list_any (is_in_way_of t r) ahead)
-        (λ h. or_left (list_any (is_in_way r) held) _ (of-any r held t h)) (λ h. or_right (list_any (is_in_way r) held) _ (of-any r ahead t h))
+    (λ h. or_left (list_any (is_in_way r) held) _ (of-any r held t h)) (λ h. or_right (list_any (is_in_way r) held) _ (of-any r ahead t h))
 
 -- none is found exactly where the request isn't held up, and else the least session that makes it wait
 pub found-none : (r : Grant) (held ahead : List Grant) (found : Option ℕ) → found ≡ fold (lesser r) (fold (lesser r) None held) ahead

@@ -1,10 +1,10 @@
 -- What a walk of the queues keeps and makes.
-use Rattle.std.proofs.Common.{◌≡◌, ℕ, ◌+◌, ◌<◌, ◌≤◌, Bool, true, false, cond, not, ◌&&◌, ◌||◌, List, [], ◌∷◌, ◌++◌, take, drop, ltb, refl, sym, ◌∙◌, ap, subst, arith, append_assoc, append-nil, count_by, fold, IsTrue, nat_lt, filter}
-use Rattle.std.specs.List.{insert, position_or_len, list_any}
+use Rattle.std.proofs.Common.{◌≡◌, ℕ, ◌+◌, ◌≤◌, Bool, true, false, cond, not, List, [], ◌∷◌, ◌++◌, refl, subst, arith, append_assoc, append-nil, count_by, fold, nat_lt}
+use Rattle.std.specs.List.{insert, position_or_len}
 use Rattle.std.proofs.lemmas.Grind.{common_steps}
 use Rattle.std.proofs.lemmas.Bool.{ltb-true, ltb-false}
 use Rattle.std.proofs.lemmas.List.Folds.{list_any-append}
-use Rattle.std.proofs.lemmas.List.Sums.{sum_by-cons, sum_by-append, sum_by_push}
+use Rattle.std.proofs.lemmas.List.Sums.{sum_by-cons, sum_by_push}
 use Rattle.al_queue.specs.declared.grant.Grant.{Grant}
 use Rattle.al_queue.specs.Locks.{Locks}
 use Rattle.al_queue.specs.InWay.{is_in_way, held_up}

@@ -34,9 +34,7 @@ pub fn is_held_up(request: Grant, held: &[Grant], ahead: &[Grant]) -> bool
 pub fn any_of_session(session: u32, request: Grant, others: &[Grant]) -> bool
     ensures { result ≡ list_any (is_in_way_of session request) others.now }
 {
-    others
-        .iter()
-        .any(|other| other.session == session && is_in_way(request, *other))
+    others.iter().any(|other| other.session == session && is_in_way(request, *other))
 }
 
 /// Whether one of a list is a session's, for a table in a mode.
@@ -85,5 +83,7 @@ pub fn count_of_table(table: u32, requests: &[Grant]) -> usize
 pub fn position_of(session: u32, requests: &[Grant]) -> Option<usize>
     ensures { result ≡ position (λ request. request.session == session) requests.now }
 {
-    requests.iter().position(|request| request.session == session)
+    requests
+        .iter()
+        .position(|request| request.session == session)
 }

@@ -4,6 +4,8 @@
 mod grant;
 mod in_way;
 mod table;
+#[cfg(test)]
+mod tests;
 mod walk;
 
 pub use grant::{Asked, Grant};

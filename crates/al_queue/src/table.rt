@@ -45,17 +45,24 @@ impl LockTable {
     /// # Errors
     ///
     /// Want of memory.
-    pub fn new(_alloc: Global, sessions: u32) -> Result<LockTable, NoMemory>
+    pub fn new(alloc: Global, sessions: u32) -> Result<LockTable, NoMemory>
         ensures table { IfOk result (λ t. t ≡ record { sessions = sessions; locks = record { held = []; waiting = []; granted = [] } }) }
         ensures settled { IfOk result (λ t. IsSettled t.locks) }
     {
         Ok(LockTable {
             sessions,
-            held: Vec::new(_alloc),
-            waiting: Vec::new(_alloc),
-            spare: Vec::new(_alloc),
-            granted: Vec::new(_alloc),
+            held: Vec::new(alloc),
+            waiting: Vec::new(alloc),
+            spare: Vec::new(alloc),
+            granted: Vec::new(alloc),
         })
+    }
+
+    /// The number of sessions.
+    pub fn sessions(&self) -> u32
+        ensures { result ≡ self.now.sessions }
+    {
+        self.sessions
     }
 
     /// Whether a session has a waiting request.
@@ -97,9 +104,7 @@ impl LockTable {
         self.granted.reserve(waiting + 1)?;
         self.waiting.reserve(1)?;
         self.waiting.push_reserved(request);
-        Ok(Asked::Queued {
-            place,
-        })
+        Ok(Asked::Queued { place })
     }
 
     /// The least session that would make this request wait, where it would wait.
@@ -117,7 +122,8 @@ impl LockTable {
         least_in_way(request, found, &self.waiting)
     }
 
-    /// Gives up all locks of a session, and walks the queues. The answer is how many requests were granted.
+    /// Gives up all locks of a session, and walks the queues. The answer is how many requests were granted. A request of
+    /// the session that waits stays where it is.
     pub fn release(&mut self, session: u32) -> u32
         requires { session < self.old.sessions }
         ensures locks { self.new ≡ record { sessions = self.old.sessions; locks = walked (released self.old.locks session) } }

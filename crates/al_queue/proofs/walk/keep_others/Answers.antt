@@ -1,4 +1,4 @@
-use Rattle.std.proofs.Common.{rules, ◌≡◌, not, ◌==◌}
+use Rattle.std.proofs.Common.{rules, not, ◌==◌}
 use Rattle.al_queue.specs.declared.grant.Grant.{Grant}
 use Rattle.al_queue.proofs.Kept.{filter-from_retain}
 use Rattle.al_queue.proofs.walk.keep_others.Goals as goal

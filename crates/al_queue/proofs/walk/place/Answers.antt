@@ -1,5 +1,4 @@
-use Rattle.std.proofs.Common.{◌≡◌, sym, ◌∙◌, ap, arith}
-use Rattle.std.specs.List.{insert}
+use Rattle.std.proofs.Common.{arith}
 use Rattle.std.proofs.lemmas.Grind.{common_steps}
 use Rattle.al_queue.proofs.Walks.{insert-placed}
 use Rattle.al_queue.proofs.walk.place.Goals as goal

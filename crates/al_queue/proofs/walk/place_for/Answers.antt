@@ -1,4 +1,4 @@
-use Rattle.std.proofs.Common.{◌≡◌, sym, ◌∙◌, nat_lt}
+use Rattle.std.proofs.Common.{sym, ◌∙◌, nat_lt}
 use Rattle.al_queue.specs.declared.grant.Grant.{Grant}
 use Rattle.al_queue.proofs.Kept.{none-at_length}
 use Rattle.al_queue.proofs.walk.place_for.Goals as goal

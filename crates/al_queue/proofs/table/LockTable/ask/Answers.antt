@@ -1,4 +1,4 @@
-use Rattle.std.proofs.Common.{◌≡◌, sym, subst, ◌∙◌, ap, arith, List, ◌++◌, ◌∷◌, []}
+use Rattle.std.proofs.Common.{sym, subst, arith, List}
 use Rattle.al_queue.specs.declared.grant.Grant.{Grant}
 use Rattle.std.proofs.lemmas.Grind.{common_steps}
 use Rattle.al_queue.specs.Locks.{Locks, Kept}

@@ -12,5 +12,5 @@ pub returns-clause-hands_on : goal.returns-clause-hands_on
 returns-clause-hands_on c =
     let before : Locks = record { held = c.keep_others.new.grants.items; waiting = c.self.inside.waiting.items; granted = c.self.inside.granted.items } in
     let same : before ≡ released c.args.self.now.locks c.args.session =
-        subst (λ (k : Kept). before ≡ released k.locks c.args.session) c.self.view_is (ap (λ (grants : List Grant). record { held = grants; waiting = c.self.inside.waiting.items; granted = c.self.inside.granted.items }) c.keep_others.ensures.items) in
+    subst (λ (k : Kept). before ≡ released k.locks c.args.session) c.self.view_is (ap (λ (grants : List Grant). record { held = grants; waiting = c.self.inside.waiting.items; granted = c.self.inside.granted.items }) c.keep_others.ensures.items) in
     hands_on-after (released c.args.self.now.locks c.args.session) before _ same c.walk_queues.ensures.walked

@@ -10,10 +10,10 @@ pub returns-clause-none : goal.returns-clause-none
 returns-clause-none c =
     let request : Grant = record { session = c.args.session; table = c.args.table; mode = c.args.mode } in
     subst (λ (k : Kept). (c.least_in_way.result ≡ None) ↔ IsTrue (grantable k.locks request)) c.self.view_is
-        (found-none request c.self.inside.held.items c.self.inside.waiting.items _ (cc))
+    (found-none request c.self.inside.held.items c.self.inside.waiting.items _ (cc))
 
 pub returns-clause-least : goal.returns-clause-least
 returns-clause-least c =
     let request : Grant = record { session = c.args.session; table = c.args.table; mode = c.args.mode } in
     subst (λ (k : Kept). IfSome c.least_in_way.result (IsLeastBefore k.locks request)) c.self.view_is
-        (found-least request c.self.inside.held.items c.self.inside.waiting.items _ (cc))
+    (found-least request c.self.inside.held.items c.self.inside.waiting.items _ (cc))
