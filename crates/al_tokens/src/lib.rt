@@ -1,0 +1,9 @@
+//! The tokens of a text of SQL.
+#![tactic(auto)]
+
+mod bytes;
+mod kinds;
+mod read;
+
+pub use kinds::{Lex, Sign, Token, TokenKind, TokenList};
+pub use read::tokens;
