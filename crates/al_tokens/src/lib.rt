@@ -4,6 +4,8 @@
 mod bytes;
 mod kinds;
 mod read;
+#[cfg(test)]
+mod tests;
 
 pub use kinds::{Lex, Sign, Token, TokenKind, TokenList};
 pub use read::tokens;
