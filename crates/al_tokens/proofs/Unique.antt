@@ -11,8 +11,12 @@ use Rattle.al_tokens.specs.declared.kinds.Token.{Token}
 use Rattle.al_tokens.specs.declared.kinds.Lex.{Lex}
 use Rattle.al_tokens.specs.declared.kinds.Sign.{Sign}
 use Rattle.al_tokens.specs.declared.bytes.Class.TheVariants as classes
+use Rattle.al_tokens.specs.declared.bytes.Begins.{Begins}
 use Rattle.al_tokens.specs.declared.bytes.Begins.TheVariants as begins
-use Rattle.al_tokens.specs.Bytes.{at, is_of, begun, begun_at, long_sign, short_sign, width, Run, Closed}
+use Rattle.al_tokens.specs.Bytes.{at, is_of, is_blank, Run, Closed}
+use Rattle.al_tokens.specs.Begun.{begun, begun_at, long_sign, short_sign}
+use Rattle.al_tokens.specs.Signs.{width}
+use Rattle.al_tokens.proofs.Starts.{leads, token_begun, gap_begun, name_begun, text_begun}
 use Rattle.al_tokens.specs.Tokens.{IsGap, IsToken, IsPiece, Reads, here, gap, token, IsStuck, FaultAt, Rise, Unclosed, AreTokens, IfWhy}
 use Rattle.al_tokens.proofs.Runs.{clash, one_run, one_end}
 
@@ -28,25 +32,27 @@ and_token text m n _ _ kind (gap i next ts h r) g less = gap i next _ h (and_tok
 and_token text m n _ _ kind (token other i next us h lt r) g less = token other i next _ h lt (and_token text m n next us kind r g less)
 
 -- a gap is no token, and goes to one end
+gap_end : (text : List ℕ) (i m n : ℕ) → ((begun_at text i ≡ begins.Blank) × (m ≡ i + 1)) ⊎ ((begun_at text i ≡ begins.Comment) × Run classes.Comment text i m)
+    → ((begun_at text i ≡ begins.Blank) × (n ≡ i + 1)) ⊎ ((begun_at text i ≡ begins.Comment) × Run classes.Comment text i n) → m ≡ n
+gap_end text i m n (inl a) (inl b) = a.1 ∙ sym b.1
+gap_end text i m n (inl a) (inr b) = absurd (cc (a.0, b.0))
+gap_end text i m n (inr a) (inl b) = absurd (cc (a.0, b.0))
+gap_end text i m n (inr a) (inr b) = one_run _ text i m n a.1 b.1
+
 pub one_gap : (text : List ℕ) (i m n : ℕ) → IsGap text i m → IsGap text i n → m ≡ n
-one_gap text i m n (inl a) (inl b) = a.1 ∙ sym b.1
-one_gap text i m n (inl a) (inr b) = absurd (cc (a.0, b.0))
-one_gap text i m n (inr a) (inl b) = absurd (cc (a.0, b.0))
-one_gap text i m n (inr a) (inr b) = one_run _ text i m n a.1 b.1
+one_gap text i m n a b = gap_end text i m n (gap_begun text i m a) (gap_begun text i n b)
+
+no_gap_lead : (kind : TokenKind) (x : Begins) → x ≡ leads kind → (x ≡ begins.Blank) ⊎ (x ≡ begins.Comment) → ⊥
+no_gap_lead kinds.Word x e (inl a) = cc (e, a)
+no_gap_lead kinds.Word x e (inr a) = cc (e, a)
+no_gap_lead kind x e (inl a) = cc (e, a)
+no_gap_lead kind x e (inr a) = cc (e, a)
+
+gap_leads : (text : List ℕ) (i m : ℕ) → IsGap text i m → (begun_at text i ≡ begins.Blank) ⊎ (begun_at text i ≡ begins.Comment)
+gap_leads text i m a = elim (gap_begun text i m a) [ inl x ↦ inl x.0 | inr x ↦ inr x.0 ]
 
 pub gap_or_token : (text : List ℕ) (i m n : ℕ) (kind : TokenKind) → IsGap text i m → IsToken kind text i n → ⊥
-gap_or_token text i m n kinds.Word (inl a) b = cc (a.0, b.0)
-gap_or_token text i m n kinds.Word (inr a) b = cc (a.0, b.0)
-gap_or_token text i m n kinds.Integer (inl a) b = cc (a.0, b.0)
-gap_or_token text i m n kinds.Integer (inr a) b = cc (a.0, b.0)
-gap_or_token text i m n kinds.OddNumber (inl a) b = cc (a.0, b.0)
-gap_or_token text i m n kinds.OddNumber (inr a) b = cc (a.0, b.0)
-gap_or_token text i m n kinds.QuotedName (inl a) b = cc (a.0, b.0)
-gap_or_token text i m n kinds.QuotedName (inr a) b = cc (a.0, b.0)
-gap_or_token text i m n kinds.Text (inl a) b = cc (a.0, b.0)
-gap_or_token text i m n kinds.Text (inr a) b = cc (a.0, b.0)
-gap_or_token text i m n (kinds.Sign s) (inl a) b = cc (a.0, b.0)
-gap_or_token text i m n (kinds.Sign s) (inr a) b = cc (a.0, b.0)
+gap_or_token text i m n kind a b = no_gap_lead kind _ (token_begun text i n kind b) (gap_leads text i m a)
 
 -- One token begins at a place, and goes to one end.
 pub one_token : (text : List ℕ) (i m n : ℕ) (k l : TokenKind) → IsToken k text i m → IsToken l text i n → (k ≡ l) × (m ≡ n)
@@ -64,9 +70,9 @@ one_token text i m n kinds.OddNumber kinds.OddNumber a b =
 one_token text i m n kinds.QuotedName kinds.QuotedName a b = (refl, one_end 34 text m n (i + 1) a.1 b.1)
 one_token text i m n kinds.Text kinds.Text a b = (refl, one_end 39 text m n (i + 1) a.1 b.1)
 one_token text i m n (kinds.Sign s) (kinds.Sign t) a b =
-    let e : s ≡ t = cc (a.0, b.0) in
+    let e : s ≡ t = cc (token_begun text i m (kinds.Sign s) a, token_begun text i n (kinds.Sign t) b) in
     (ap (λ (x : Sign). kinds.Sign x) e, a.1 ∙ ap (λ (x : Sign). i + width x) e ∙ sym b.1)
-one_token text i m n k l a b = absurd (cc (a.0, b.0))
+one_token text i m n k l a b = absurd (cc (token_begun text i m k a, token_begun text i n l b))
 
 -- Neither a gap nor a token begins at a place.
 pub record Dead (text : List ℕ) (i : ℕ) : Type 0 where
@@ -74,12 +80,11 @@ pub record Dead (text : List ℕ) (i : ℕ) : Type 0 where
   pub no_token : (kind : TokenKind) (end : ℕ) → IsToken kind text i end → ⊥
 
 no_gap_at : (text : List ℕ) (i end : ℕ) → begun_at text i ≡ begins.Nothing → IsGap text i end → ⊥
-no_gap_at text i end e (inl a) = cc (e, a.0)
-no_gap_at text i end e (inr a) = cc (e, a.0)
+no_gap_at text i end e a = elim (gap_leads text i end a) [ inl x ↦ cc (e, x) | inr x ↦ cc (e, x) ]
 
 no_token_at : (text : List ℕ) (i end : ℕ) (kind : TokenKind) → begun_at text i ≡ begins.Nothing → IsToken kind text i end → ⊥
-no_token_at text i end kinds.Word e a = cc (e, a.0)
-no_token_at text i end kind e a = cc (e, a.0)
+no_token_at text i end kinds.Word e a = cc (e, token_begun text i end kinds.Word a)
+no_token_at text i end kind e a = cc (e, token_begun text i end kind a)
 
 begun_zero : begun 0 0 ≡ begins.Nothing
 unfolding begun long_sign short_sign
@@ -122,7 +127,7 @@ one_reading text m n _ _ _ d f (token k i next ts h lt r) (token l _ then us g l
 -- Spans rise.
 gap_rises : (text : List ℕ) (i next : ℕ) → IsGap text i next → i ≤ next
 gap_rises text i next (inl a) = omega (arith, a.1)
-gap_rises text i next (inr a) = a.1.rises
+gap_rises text i next (inr a) = a.2.rises
 
 pub rise : (text : List ℕ) (end i : ℕ) (ts : List Token) (from : ℕ) → from ≤ i → Reads text end i ts → Rise from end ts
 rise text end _ _ from le (here i e) = omega arith
@@ -174,24 +179,33 @@ pub read_gap : (text : List ℕ) (m n : ℕ) (ts : List Token) (o : Option Token
 read_gap text m n ts None none piece r = and_gap text m n 0 ts r piece
 read_gap text m n ts (Some kind) none piece r = absurd (none kind refl)
 
--- ---- an empty name
+-- ---- where nothing is begun, an empty name, and what is unclosed
+
+pub stuck_there : (text : List ℕ) (i : ℕ) → i < length text → begun_at text i ≡ begins.Nothing → IsStuck text i i
+stuck_there text i lt e = record {
+  within = lt;
+  no_gap = λ m a. no_gap_at text i m e a;
+  no_token = λ kind m a. no_token_at text i m kind e a;
+  place = inr (λ u. elim u [ inl a ↦ cc (e, name_begun text i a.0) | inr a ↦ cc (e, text_begun text i a.0) ], refl)
+}
 
 no_gap_quoted : (text : List ℕ) (i end : ℕ) → begun_at text i ≡ begins.QuotedName → IsGap text i end → ⊥
-no_gap_quoted text i end e (inl a) = cc (e, a.0)
-no_gap_quoted text i end e (inr a) = cc (e, a.0)
+no_gap_quoted text i end e a = elim (gap_leads text i end a) [ inl y ↦ cc (e, y) | inr y ↦ cc (e, y) ]
 
-no_token_empty : (text : List ℕ) (i end m : ℕ) (kind : TokenKind) → begun_at text i ≡ begins.QuotedName → Closed 34 text end (i + 1) → end ≡ i + 2 → IsToken kind text i m → ⊥
-no_token_empty text i end m kinds.QuotedName e shut empty a = a.2 (one_end 34 text m end (i + 1) a.1 shut ∙ empty)
-no_token_empty text i end m kind e shut empty a = cc (e, a.0)
+only_name : (text : List ℕ) (i m : ℕ) (kind : TokenKind) → begun_at text i ≡ begins.QuotedName → IsToken kind text i m → Closed 34 text m (i + 1) × (m ≡ i + 2 → ⊥)
+only_name text i m kinds.QuotedName e a = (a.1, a.2)
+only_name text i m kind e a = absurd (cc (e, token_begun text i m kind a))
 
 not_unclosed : (text : List ℕ) (i end : ℕ) → begun_at text i ≡ begins.QuotedName → Closed 34 text end (i + 1) → Unclosed text i → ⊥
 not_unclosed text i end e shut (inl a) = a.1 end shut
-not_unclosed text i end e shut (inr a) = cc (e, a.0)
+not_unclosed text i end e shut (inr a) = cc (e, text_begun text i a.0)
 
-pub empty_name : (text : List ℕ) (i end : ℕ) → i < length text → begun_at text i ≡ begins.QuotedName → Closed 34 text end (i + 1) → end ≡ i + 2 → IsStuck text i i
-empty_name text i end lt e shut empty = record {
-  within = lt;
-  no_gap = λ m a. no_gap_quoted text i m e a;
-  no_token = λ kind m a. no_token_empty text i end m kind e shut empty a;
-  place = inr (not_unclosed text i end e shut, refl)
-}
+pub empty_name : (text : List ℕ) (i end : ℕ) → i < length text → at text i ≡ 34 → Closed 34 text end (i + 1) → end ≡ i + 2 → IsStuck text i i
+empty_name text i end lt q shut empty =
+    let e = name_begun text i q in
+    record {
+      within = lt;
+      no_gap = λ m a. no_gap_quoted text i m e a;
+      no_token = λ kind m a. let n = only_name text i m kind e a in n.1 (one_end 34 text m end (i + 1) n.0 shut ∙ empty);
+      place = inr (not_unclosed text i end e shut, refl)
+    }

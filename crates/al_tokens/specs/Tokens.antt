@@ -6,23 +6,24 @@ use Rattle.al_tokens.specs.declared.kinds.TokenKind.{TokenKind}
 use Rattle.al_tokens.specs.declared.kinds.TokenKind.TheVariants as kinds
 use Rattle.al_tokens.specs.declared.kinds.Token.{Token}
 use Rattle.al_tokens.specs.declared.bytes.Class.TheVariants as classes
-use Rattle.al_tokens.specs.declared.bytes.Begins.TheVariants as begins
-use Rattle.al_tokens.specs.Bytes.{at, is_of, width, begun_at, Run, Closed}
+use Rattle.al_tokens.specs.Bytes.{at, is_blank, begins_word, is_of, Run, Closed}
+use Rattle.al_tokens.specs.Signs.{width, Spells}
+use Rattle.std.specs.Char.{is_ascii_digit}
 
 -- What parts tokens: a blank, or a comment to its line's end.
 abbrev pub IsGap : List ℕ → ℕ → ℕ → Type 0
-IsGap text i end = ((begun_at text i ≡ begins.Blank) × (end ≡ i + 1)) ⊎ ((begun_at text i ≡ begins.Comment) × Run classes.Comment text i end)
+IsGap text i end = ((is_blank (at text i) ≡ true) × (end ≡ i + 1)) ⊎ ((at text i ≡ 45) × (at text (i + 1) ≡ 45) × Run classes.Comment text i end)
 
 -- A token of a kind stands from a place to an end. A word is as long as it can be. An integer is digits that no letter
 -- and no point follows; otherwise the digits, and as many letters, digits and points as follow, are an odd number.
 -- What is quoted goes to its closing quote, and a quoted name isn't empty.
 abbrev pub IsToken : TokenKind → List ℕ → ℕ → ℕ → Type 0
-IsToken kinds.Word text i end = (begun_at text i ≡ begins.Word) × Run classes.Word text i end
-IsToken kinds.Integer text i end = (begun_at text i ≡ begins.Number) × Run classes.Digit text i end × (is_of classes.Number (at text end) ≡ false)
-IsToken kinds.OddNumber text i end = (begun_at text i ≡ begins.Number) × ((d : ℕ) × Run classes.Digit text i d × (is_of classes.Number (at text d) ≡ true) × Run classes.Number text d end)
-IsToken kinds.QuotedName text i end = (begun_at text i ≡ begins.QuotedName) × Closed 34 text end (i + 1) × (end ≡ i + 2 → ⊥)
-IsToken kinds.Text text i end = (begun_at text i ≡ begins.Text) × Closed 39 text end (i + 1)
-IsToken (kinds.Sign s) text i end = (begun_at text i ≡ begins.Sign s) × (end ≡ i + width s)
+IsToken kinds.Word text i end = (begins_word (at text i) ≡ true) × Run classes.Word text i end
+IsToken kinds.Integer text i end = (is_ascii_digit (at text i) ≡ true) × Run classes.Digit text i end × (is_of classes.Number (at text end) ≡ false)
+IsToken kinds.OddNumber text i end = (is_ascii_digit (at text i) ≡ true) × ((d : ℕ) × Run classes.Digit text i d × (is_of classes.Number (at text d) ≡ true) × Run classes.Number text d end)
+IsToken kinds.QuotedName text i end = (at text i ≡ 34) × Closed 34 text end (i + 1) × (end ≡ i + 2 → ⊥)
+IsToken kinds.Text text i end = (at text i ≡ 39) × Closed 39 text end (i + 1)
+IsToken (kinds.Sign s) text i end = Spells s (at text i) (at text (i + 1)) × (end ≡ i + width s)
 
 -- From a place to an end the text is gaps and these tokens, each with its places.
 pub data Reads (text : List ℕ) (end : ℕ) : ℕ → List Token → Type 0 where
@@ -38,8 +39,8 @@ AreTokens text ts = Reads text (length text) 0 ts
 -- A quote stands at a place, and nothing closes it.
 abbrev pub Unclosed : List ℕ → ℕ → Type 0
 Unclosed text i =
-    ((begun_at text i ≡ begins.QuotedName) × ((end : ℕ) → Closed 34 text end (i + 1) → ⊥))
-    ⊎ ((begun_at text i ≡ begins.Text) × ((end : ℕ) → Closed 39 text end (i + 1) → ⊥))
+    ((at text i ≡ 34) × ((end : ℕ) → Closed 34 text end (i + 1) → ⊥))
+    ⊎ ((at text i ≡ 39) × ((end : ℕ) → Closed 39 text end (i + 1) → ⊥))
 
 -- Within the text neither a gap nor a token begins at a place. The fault is told there, but at the text's end where a
 -- quote is unclosed.

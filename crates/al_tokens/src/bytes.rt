@@ -1,5 +1,7 @@
 ghost use Rattle.std.specs.Prelude.{ℕ, ◌≡◌, ◌≤◌, ◌<◌, ◌+◌, length, get_or, IfSome, IfNone};
-ghost use Rattle.al_tokens.specs.Bytes.{at, is_blank, begins_word, is_of, long_sign, short_sign, width, begun, Run, Closed};
+ghost use Rattle.al_tokens.specs.Bytes.{at, is_blank, begins_word, is_of, Run, Closed};
+ghost use Rattle.al_tokens.specs.Begun.{long_sign, short_sign, begun};
+ghost use Rattle.al_tokens.specs.Signs.{width};
 
 use crate::Sign;
 
@@ -69,7 +71,7 @@ pub fn is_of(class: Class, byte: u8) -> bool
     }
 }
 
-#[tactic(auto, unfolding(crate::specs::Bytes::long_sign))]
+#[tactic(auto, unfolding(crate::specs::Begun::long_sign))]
 fn long_sign(byte: u8, next: u8) -> Option<Sign>
     ensures { result ≡ long_sign byte next }
 {
@@ -94,7 +96,7 @@ fn long_sign(byte: u8, next: u8) -> Option<Sign>
     None
 }
 
-#[tactic(auto, unfolding(crate::specs::Bytes::short_sign))]
+#[tactic(auto, unfolding(crate::specs::Begun::short_sign))]
 fn short_sign(byte: u8) -> Option<Sign>
     ensures { result ≡ short_sign byte }
 {
@@ -153,7 +155,7 @@ pub fn width(sign: Sign) -> usize
     }
 }
 
-#[tactic(auto, unfolding(crate::specs::Bytes::begun))]
+#[tactic(auto, unfolding(crate::specs::Begun::begun))]
 pub fn begun(byte: u8, next: u8) -> Begins
     ensures { result ≡ begun byte next }
 {

@@ -1,10 +1,10 @@
-ghost use Rattle.std.specs.Prelude.{ℕ, ◌≡◌, ◌≤◌, ◌<◌, ◌+◌, ◌^◌, ◌⊎◌, List, length, Some, None, Ok, Err, IfOk, IfErr};
+ghost use Rattle.std.specs.Prelude.{ℕ, true, ◌≡◌, ◌≤◌, ◌<◌, ◌+◌, ◌^◌, ◌⊎◌, List, length, Some, None, Ok, Err, IfOk, IfErr};
 ghost use Rattle.al_values.specs.Gives.{GivesUnlessNoMemory};
 ghost use Rattle.al_values.specs.declared.cant.Cant.TheVariants as cants;
-ghost use Rattle.al_tokens.specs.Bytes.{begun_at};
+ghost use Rattle.std.specs.Char.{is_ascii_digit};
+ghost use Rattle.al_tokens.specs.Bytes.{at};
 ghost use Rattle.al_tokens.specs.Tokens.{IsGap, IsToken, IsPiece, IfWhy, AreTokens, IsStuck, FaultAt, Rise};
 ghost use Rattle.al_tokens.specs.declared.kinds.TokenKind.TheVariants as kinds;
-ghost use Rattle.al_tokens.specs.declared.bytes.Begins.TheVariants as begins;
 
 use crate::bytes::{Begins, Class, at, begun, closed, is_of, run_end, width};
 use crate::{Lex, Token, TokenKind, TokenList};
@@ -14,7 +14,7 @@ use std::alloc::Global;
 // An integer or an odd number, with its end.
 fn number(text: &[u8], place: usize) -> (TokenKind, usize)
     requires inside { place < length text.now }
-    requires begun { begun_at text.now place ≡ begins.Number }
+    requires digit { is_ascii_digit (at text.now place) ≡ true }
     ensures found { IsToken result.0 text.now place result.1 }
     ensures rises { place < result.1 }
     ensures within { result.1 ≤ length text.now }
@@ -29,7 +29,7 @@ fn number(text: &[u8], place: usize) -> (TokenKind, usize)
 // A quoted name's end, or the place of its fault.
 fn quoted_name(text: &[u8], place: usize) -> Result<usize, usize>
     requires inside { place < length text.now }
-    requires begun { begun_at text.now place ≡ begins.QuotedName }
+    requires quote { at text.now place ≡ 34 }
     ensures found { IfOk result (λ end. IsToken kinds.QuotedName text.now place end) }
     ensures rises { IfOk result (λ end. (place < end) × (end ≤ length text.now)) }
     ensures stuck { IfErr result (λ fault. IsStuck text.now place fault) }
@@ -48,7 +48,7 @@ fn quoted_name(text: &[u8], place: usize) -> Result<usize, usize>
 // A text's end, or the place of its fault.
 fn quoted_text(text: &[u8], place: usize) -> Result<usize, usize>
     requires inside { place < length text.now }
-    requires begun { begun_at text.now place ≡ begins.Text }
+    requires quote { at text.now place ≡ 39 }
     ensures found { IfOk result (λ end. IsToken kinds.Text text.now place end) }
     ensures rises { IfOk result (λ end. (place < end) × (end ≤ length text.now)) }
     ensures stuck { IfErr result (λ fault. IsStuck text.now place fault) }
