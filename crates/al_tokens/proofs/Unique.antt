@@ -17,7 +17,7 @@ use Rattle.al_tokens.specs.Bytes.{at, is_of, is_blank, Run, Closed}
 use Rattle.al_tokens.specs.Begun.{begun, begun_at, long_sign, short_sign}
 use Rattle.al_tokens.specs.Signs.{width}
 use Rattle.al_tokens.proofs.Starts.{leads, token_begun, gap_begun, name_begun, text_begun}
-use Rattle.al_tokens.specs.Tokens.{IsGap, IsToken, IsPiece, Reads, here, gap, token, IsStuck, FaultAt, Rise, Unclosed, AreTokens, IfWhy}
+use Rattle.al_tokens.specs.Tokens.{IsGap, IsToken, IsPiece, Reads, here, gap, token, IsStuck, FaultAt, Spans, Unclosed, AreTokens, IfWhy}
 use Rattle.al_tokens.proofs.Runs.{clash, one_run, one_end}
 
 -- what was read, and one piece more
@@ -129,10 +129,10 @@ gap_rises : (text : List ℕ) (i next : ℕ) → IsGap text i next → i ≤ nex
 gap_rises text i next (inl a) = omega (arith, a.1)
 gap_rises text i next (inr a) = a.2.rises
 
-pub rise : (text : List ℕ) (end i : ℕ) (ts : List Token) (from : ℕ) → from ≤ i → Reads text end i ts → Rise from end ts
-rise text end _ _ from le (here i e) = omega arith
-rise text end _ _ from le (gap i next ts h r) = rise text end next ts from (omega (arith, gap_rises text i next h)) r
-rise text end _ _ from le (token kind i next ts h lt r) = (le, lt, rise text end next ts next (omega arith) r)
+rise : (text : List ℕ) (end i : ℕ) (ts : List Token) (from : ℕ) → end ≡ length text → from ≤ i → Reads text end i ts → Spans text from ts
+rise text end _ _ from all le (here i e) = omega arith
+rise text end _ _ from all le (gap i next ts h r) = rise text end next ts from all (omega (arith, gap_rises text i next h)) r
+rise text end _ _ from all le (token kind i next ts h lt r) = (le, lt, h, rise text end next ts next all (omega arith) r)
 
 -- ---- what a result says
 
@@ -162,8 +162,8 @@ only_there text (Ok us) found fault n is = absurd (tokens_or_fault text us n fou
 only_there text (Err (cants.Why lex)) found fault n is = ap (λ (x : ℕ). Err (record { at = x })) (one_fault text n lex.at is fault)
 only_there text (Err cants.NoMemory) found fault n is = tt
 
-pub spans_rise : (text : List ℕ) (r : Result (List Token) (Cant Lex)) → IfOk r (λ ts. AreTokens text ts) → IfOk r (λ ts. Rise 0 (length text) ts)
-spans_rise text (Ok us) found = rise text (length text) 0 us 0 (omega arith) found
+pub spans_rise : (text : List ℕ) (r : Result (List Token) (Cant Lex)) → IfOk r (λ ts. AreTokens text ts) → IfOk r (λ ts. Spans text 0 ts)
+spans_rise text (Ok us) found = rise text (length text) 0 us 0 refl (omega arith) found
 spans_rise text (Err e) found = tt
 
 -- ---- what the loop does with a piece

@@ -57,10 +57,10 @@ pub record FaultAt (text : List ℕ) (fault : ℕ) : Type 0 where
   pub reads : Reads text upto 0 tokens
   pub stuck : IsStuck text upto fault
 
--- Spans rise, none is empty, and all lie within a text of a length.
-abbrev pub Rise : ℕ → ℕ → List Token → Type 0
-Rise from size [] = from ≤ size
-Rise from size (t ∷ ts) = (from ≤ t.start) × (t.start < t.end) × Rise t.end size ts
+-- Spans rise from a place, none is empty, all lie within the text, and in each span stands its token.
+abbrev pub Spans : List ℕ → ℕ → List Token → Type 0
+Spans text from [] = from ≤ length text
+Spans text from (t ∷ ts) = (from ≤ t.start) × (t.start < t.end) × IsToken t.kind text t.start t.end × Spans text t.end ts
 
 -- A gap, or a token of a kind, stands from a place to an end.
 abbrev pub IsPiece : Option TokenKind → List ℕ → ℕ → ℕ → Type 0

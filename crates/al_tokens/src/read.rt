@@ -3,7 +3,7 @@ ghost use Rattle.al_values.specs.Gives.{GivesUnlessNoMemory};
 ghost use Rattle.al_values.specs.declared.cant.Cant.TheVariants as cants;
 ghost use Rattle.std.specs.Char.{is_ascii_digit};
 ghost use Rattle.al_tokens.specs.Bytes.{at};
-ghost use Rattle.al_tokens.specs.Tokens.{IsGap, IsToken, IsPiece, IfWhy, AreTokens, IsStuck, FaultAt, Rise};
+ghost use Rattle.al_tokens.specs.Tokens.{IsGap, IsToken, IsPiece, IfWhy, AreTokens, IsStuck, FaultAt, Spans};
 ghost use Rattle.al_tokens.specs.declared.kinds.TokenKind.TheVariants as kinds;
 
 use crate::bytes::{Begins, Class, at, begun, closed, is_of, run_end, width};
@@ -119,7 +119,7 @@ pub fn tokens(alloc: Global, text: &Txt) -> Result<TokenList, Cant<Lex>>
     ensures only { (ts : List Token) → AreTokens text.now ts → GivesUnlessNoMemory result (Ok ts) }
     ensures fault { IfWhy result (λ lex. FaultAt text.now lex.at) }
     ensures only_fault { (n : ℕ) → FaultAt text.now n → GivesUnlessNoMemory result (Err (record { at = n })) }
-    ensures spans { IfOk result (λ ts. Rise 0 (length text.now) ts) }
+    ensures spans { IfOk result (λ ts. Spans text.now 0 ts) }
     ensures long { 2 ^ 32 ≤ length text.now → result ≡ Err cants.NoMemory }
 {
     let bytes = text.as_bytes();
