@@ -11,7 +11,7 @@ use Rattle.al_tokens.specs.declared.bytes.Class.{Class}
 use Rattle.al_tokens.specs.declared.bytes.Class.TheVariants as classes
 use Rattle.al_tokens.specs.declared.bytes.Begins.{Begins}
 use Rattle.al_tokens.specs.declared.bytes.Begins.TheVariants as begins
-use Rattle.al_tokens.specs.Bytes.{at, is_of, is_blank, begins_word, Run}
+use Rattle.al_tokens.specs.Bytes.{at, is_of, is_blank, begins_word, Run, First}
 use Rattle.al_tokens.specs.Begun.{begun, begun_at, long_sign, short_sign, sign_begun}
 use Rattle.al_tokens.specs.Signs.{width, Spells}
 use Rattle.al_tokens.specs.Tokens.{IsGap, IsToken}
@@ -217,7 +217,7 @@ token_begun text i end kinds.QuotedName a = to_name _ _ a.0
 token_begun text i end kinds.Text a = to_text _ _ a.0
 token_begun text i end (kinds.Sign s) a = to_sign _ _ s a.0
 
-pub gap_begun : (text : List ℕ) (i end : ℕ) → IsGap text i end → ((begun_at text i ≡ begins.Blank) × (end ≡ i + 1)) ⊎ ((begun_at text i ≡ begins.Comment) × Run classes.Comment text i end)
+pub gap_begun : (text : List ℕ) (i end : ℕ) → IsGap text i end → ((begun_at text i ≡ begins.Blank) × (end ≡ i + 1)) ⊎ ((begun_at text i ≡ begins.Comment) × First 10 text i end)
 gap_begun text i end (inl a) = inl (to_blank _ _ a.0, a.1)
 gap_begun text i end (inr a) = inr (to_comment _ _ a.0 a.1, a.2)
 
@@ -239,8 +239,12 @@ digits_rise text i end lt e r = run_rises classes.Digit text i end lt e r
 pub word_rises : (text : List ℕ) (i end : ℕ) → i < length text → begins_word (at text i) ≡ true → Run classes.Word text i end → i < end
 word_rises text i end lt e r = run_rises classes.Word text i end lt (rw e refl) r
 
-pub comment_rises : (text : List ℕ) (i end : ℕ) → i < length text → at text i ≡ 45 → Run classes.Comment text i end → i < end
-comment_rises text i end lt e r = run_rises classes.Comment text i end lt (rw e refl) r
+pub comment_rises : (text : List ℕ) (i end : ℕ) → i < length text → at text i ≡ 45 → First 10 text i end → i < end
+comment_rises text i end lt e r =
+    let no_end : i ≡ end → ⊥ = λ (same : i ≡ end).
+        let f : at text i ≡ 10 = ap (λ (x : ℕ). at text x) same ∙ r.is (omega arith) in
+        omega (arith, e, f) in
+    omega (arith, r.rises)
 
 -- ---- signs lie within the text
 

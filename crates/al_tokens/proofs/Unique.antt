@@ -13,12 +13,12 @@ use Rattle.al_tokens.specs.declared.kinds.Sign.{Sign}
 use Rattle.al_tokens.specs.declared.bytes.Class.TheVariants as classes
 use Rattle.al_tokens.specs.declared.bytes.Begins.{Begins}
 use Rattle.al_tokens.specs.declared.bytes.Begins.TheVariants as begins
-use Rattle.al_tokens.specs.Bytes.{at, is_of, is_blank, Run, Closed}
+use Rattle.al_tokens.specs.Bytes.{at, is_of, is_blank, Run, First, Closed}
 use Rattle.al_tokens.specs.Begun.{begun, begun_at, long_sign, short_sign}
 use Rattle.al_tokens.specs.Signs.{width}
 use Rattle.al_tokens.proofs.Starts.{leads, token_begun, gap_begun, name_begun, text_begun}
 use Rattle.al_tokens.specs.Tokens.{IsGap, IsToken, IsPiece, Reads, here, gap, token, IsStuck, FaultAt, Spans, Unclosed, AreTokens, IfWhy}
-use Rattle.al_tokens.proofs.Runs.{clash, one_run, one_end}
+use Rattle.al_tokens.proofs.Runs.{clash, one_run, one_first, one_end}
 
 -- what was read, and one piece more
 pub and_gap : (text : List ℕ) (m n i : ℕ) (ts : List Token) → Reads text m i ts → IsGap text m n → Reads text n i ts
@@ -32,12 +32,12 @@ and_token text m n _ _ kind (gap i next ts h r) g less = gap i next _ h (and_tok
 and_token text m n _ _ kind (token other i next us h lt r) g less = token other i next _ h lt (and_token text m n next us kind r g less)
 
 -- a gap is no token, and goes to one end
-gap_end : (text : List ℕ) (i m n : ℕ) → ((begun_at text i ≡ begins.Blank) × (m ≡ i + 1)) ⊎ ((begun_at text i ≡ begins.Comment) × Run classes.Comment text i m)
-    → ((begun_at text i ≡ begins.Blank) × (n ≡ i + 1)) ⊎ ((begun_at text i ≡ begins.Comment) × Run classes.Comment text i n) → m ≡ n
+gap_end : (text : List ℕ) (i m n : ℕ) → ((begun_at text i ≡ begins.Blank) × (m ≡ i + 1)) ⊎ ((begun_at text i ≡ begins.Comment) × First 10 text i m)
+    → ((begun_at text i ≡ begins.Blank) × (n ≡ i + 1)) ⊎ ((begun_at text i ≡ begins.Comment) × First 10 text i n) → m ≡ n
 gap_end text i m n (inl a) (inl b) = a.1 ∙ sym b.1
 gap_end text i m n (inl a) (inr b) = absurd (cc (a.0, b.0))
 gap_end text i m n (inr a) (inl b) = absurd (cc (a.0, b.0))
-gap_end text i m n (inr a) (inr b) = one_run _ text i m n a.1 b.1
+gap_end text i m n (inr a) (inr b) = one_first 10 text i m n a.1 b.1
 
 pub one_gap : (text : List ℕ) (i m n : ℕ) → IsGap text i m → IsGap text i n → m ≡ n
 one_gap text i m n a b = gap_end text i m n (gap_begun text i m a) (gap_begun text i n b)

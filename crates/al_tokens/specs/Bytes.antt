@@ -15,12 +15,11 @@ is_blank b = b == 32 || (nat_le 9 b && nat_le b 13)
 abbrev pub begins_word : ℕ → Bool
 begins_word b = is_ascii_alphabetic b || b == 95
 
--- Bytes that go on: of a word, digits, letters digits and points, a comment (all but the line feed).
+-- Bytes that go on: of a word, of digits, of an odd number (ASCII letters, digits and points).
 abbrev pub is_of : Class → ℕ → Bool
 is_of classes.Word b = begins_word b || is_ascii_digit b
 is_of classes.Digit b = is_ascii_digit b
 is_of classes.Number b = is_ascii_alphabetic b || (is_ascii_digit b || b == 46)
-is_of classes.Comment b = not (b == 10)
 
 -- The bytes from a place to an end are of a class, as many as there are.
 pub record Run (class : Class) (text : List ℕ) (i end : ℕ) : Type 0 where
@@ -28,6 +27,13 @@ pub record Run (class : Class) (text : List ℕ) (i end : ℕ) : Type 0 where
   pub within : end ≤ length text
   pub each : (k : ℕ) → i ≤ k → k < end → is_of class (at text k) ≡ true
   pub longest : end < length text → is_of class (at text end) ≡ false
+
+-- The end is the first place of a byte from a place on, or the text's length where there is none.
+pub record First (byte : ℕ) (text : List ℕ) (i end : ℕ) : Type 0 where
+  pub rises : i ≤ end
+  pub within : end ≤ length text
+  pub before : (k : ℕ) → i ≤ k → k < end → at text k ≡ byte → ⊥
+  pub is : end < length text → at text end ≡ byte
 
 -- What stands open in quotes at a place is closed by a quote just before an end: two quotes are one, and go on.
 pub data Closed (quote : ℕ) (text : List ℕ) (end : ℕ) : ℕ → Type 0 where

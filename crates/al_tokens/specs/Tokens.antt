@@ -6,13 +6,13 @@ use Rattle.al_tokens.specs.declared.kinds.TokenKind.{TokenKind}
 use Rattle.al_tokens.specs.declared.kinds.TokenKind.TheVariants as kinds
 use Rattle.al_tokens.specs.declared.kinds.Token.{Token}
 use Rattle.al_tokens.specs.declared.bytes.Class.TheVariants as classes
-use Rattle.al_tokens.specs.Bytes.{at, is_blank, begins_word, is_of, Run, Closed}
+use Rattle.al_tokens.specs.Bytes.{at, is_blank, begins_word, is_of, Run, First, Closed}
 use Rattle.al_tokens.specs.Signs.{width, Spells}
 use Rattle.std.specs.Char.{is_ascii_digit}
 
--- What parts tokens: a blank, or a comment to its line's end.
+-- What parts tokens: a blank, or a comment up to its line feed or the text's end.
 abbrev pub IsGap : List ℕ → ℕ → ℕ → Type 0
-IsGap text i end = ((is_blank (at text i) ≡ true) × (end ≡ i + 1)) ⊎ ((at text i ≡ 45) × (at text (i + 1) ≡ 45) × Run classes.Comment text i end)
+IsGap text i end = ((is_blank (at text i) ≡ true) × (end ≡ i + 1)) ⊎ ((at text i ≡ 45) × (at text (i + 1) ≡ 45) × First 10 text i end)
 
 -- A token of a kind stands from a place to an end. A word is as long as it can be. An integer is digits that no letter
 -- and no point follows; otherwise the digits, and as many letters, digits and points as follow, are an odd number.

@@ -1,9 +1,10 @@
 ghost use Rattle.std.specs.Prelude.{ℕ, ◌≡◌, ◌≤◌, ◌<◌, ◌+◌, length, get_or, IfSome, IfNone};
-ghost use Rattle.al_tokens.specs.Bytes.{at, is_blank, begins_word, is_of, Run, Closed};
+ghost use Rattle.al_tokens.specs.Bytes.{at, is_blank, begins_word, is_of, Run, First, Closed};
 ghost use Rattle.al_tokens.specs.Begun.{long_sign, short_sign, begun};
 ghost use Rattle.al_tokens.specs.Signs.{width};
 
 use crate::Sign;
+use memchr::memchr;
 
 /// Bytes of which as many are taken as follow.
 #[derive(Clone, Copy, Debug, Drop)]
@@ -14,8 +15,6 @@ pub enum Class {
     Digit,
     /// ASCII letters, digits and points.
     Number,
-    /// All but the line feed.
-    Comment,
 }
 
 /// What a byte begins.
@@ -67,7 +66,6 @@ pub fn is_of(class: Class, byte: u8) -> bool
         Class::Word => begins_word(byte) || byte.is_ascii_digit(),
         Class::Digit => byte.is_ascii_digit(),
         Class::Number => byte.is_ascii_alphabetic() || byte.is_ascii_digit() || byte == b'.',
-        Class::Comment => byte != b'\n',
     }
 }
 
@@ -198,6 +196,17 @@ pub fn run_end(class: Class, text: &[u8], from: usize) -> usize
     end
 }
 
+/// The first place of a byte from a place on, or the text's length.
+pub fn seek(byte: u8, text: &[u8], from: usize) -> usize
+    requires { from ≤ length text.now }
+    ensures { First byte text.now from result }
+{
+    match memchr(byte, &text[from..]) {
+        None => text.len(),
+        Some(after) => from + after,
+    }
+}
+
 /// The end of what stands open in quotes at a place, where it is closed.
 pub fn closed(quote: u8, text: &[u8], from: usize) -> Option<usize>
     requires from_within { from ≤ length text.now }
@@ -209,14 +218,14 @@ pub fn closed(quote: u8, text: &[u8], from: usize) -> Option<usize>
 {
     let mut place = from;
     while place < text.len() {
-        if text[place] != quote {
-            place += 1;
-            continue;
+        let found = seek(quote, text, place);
+        if found == text.len() {
+            return None;
         }
-        if at(text, place + 1) != quote {
-            return Some(place + 1);
+        if at(text, found + 1) != quote {
+            return Some(found + 1);
         }
-        place += 2;
+        place = found + 2;
     }
     None
 }

@@ -6,7 +6,7 @@ ghost use Rattle.al_tokens.specs.Bytes.{at};
 ghost use Rattle.al_tokens.specs.Tokens.{IsGap, IsToken, IsPiece, IfWhy, AreTokens, IsStuck, FaultAt, Spans};
 ghost use Rattle.al_tokens.specs.declared.kinds.TokenKind.TheVariants as kinds;
 
-use crate::bytes::{Begins, Class, at, begun, closed, is_of, run_end, width};
+use crate::bytes::{Begins, Class, at, begun, closed, is_of, run_end, seek, width};
 use crate::{Lex, Token, TokenKind, TokenList};
 use al_values::{Cant, ListOf, Txt};
 use std::alloc::Global;
@@ -68,7 +68,7 @@ fn piece(text: &[u8], place: usize) -> Result<(Option<TokenKind>, usize), usize>
 {
     match begun(at(text, place), at(text, place + 1)) {
         Begins::Blank => Ok((None, place + 1)),
-        Begins::Comment => Ok((None, run_end(Class::Comment, text, place))),
+        Begins::Comment => Ok((None, seek(b'\n', text, place))),
         Begins::Word => Ok((Some(TokenKind::Word), run_end(Class::Word, text, place))),
         Begins::Number => {
             let (kind, end) = number(text, place);

@@ -1,24 +1,28 @@
-use Rattle.std.proofs.Common.{◌≡◌, ℕ, ◌+◌, ◌<◌, ◌≤◌, refl, sym, ◌∙◌, arith, rules}
-use Rattle.al_tokens.specs.Bytes.{Closed, closes, doubled, other, at}
-use Rattle.al_tokens.proofs.Runs.{past_end, over_other, over_doubled}
+use Rattle.std.proofs.Common.{◌≡◌, ◌+◌, ◌<◌, length, sym, ◌∙◌, refl, arith}
+use Rattle.al_tokens.specs.Bytes.{closes, doubled, at}
+use Rattle.al_tokens.proofs.Runs.{past_end, over_doubled, to_first, from_first, byte_within}
 use Rattle.al_tokens.proofs.bytes.closed.Goals as goal
 
-pub loop-place-preserved-then-text-place : goal.loop-place-preserved-then-text-place
-loop-place-preserved-then-text-place c = record {
-  rises = omega arith;
-  to = λ end h. c.loop-place.invariant.to end (other c.loop-place.place (omega arith) c.if-text-place.true h);
-  back = λ end h. over_other _ _ end _ c.if-text-place.true (c.loop-place.invariant.back end h)
-}
+pub returns-then-found-text-clause-none : goal.returns-then-found-text-clause-none
+returns-then-found-text-clause-none c = λ end h. past_end _ _ end _ c.requires.byte (omega arith) (to_first _ _ end _ _ c.seek-found.ensures (c.loop-place.invariant.back end h))
 
 pub returns-then-at-quote-clause-some : goal.returns-then-at-quote-clause-some
-returns-then-at-quote-clause-some c = c.loop-place.invariant.to _ (closes c.loop-place.place c.if-text-place.false (λ e. c.if-at-quote.true (c.at.ensures ∙ e)) refl)
+returns-then-at-quote-clause-some c =
+    let s = c.seek-found.ensures in
+    c.loop-place.invariant.to _ (from_first _ _ _ _ _ s (closes _ (s.is (omega (arith, s.within))) (λ e. c.if-at-quote.true (c.at.ensures ∙ e)) refl))
 
 pub loop-place-preserved : goal.loop-place-preserved
-loop-place-preserved c = record {
-  rises = omega arith;
-  to = λ end h. c.loop-place.invariant.to end (doubled c.loop-place.place c.if-text-place.false (sym c.at.ensures ∙ c.if-at-quote.false) h);
-  back = λ end h. over_doubled _ _ end _ c.if-text-place.false (sym c.at.ensures ∙ c.if-at-quote.false) (c.loop-place.invariant.back end h)
-}
+loop-place-preserved c =
+    let s = c.seek-found.ensures in
+    let here : at c.args.text.now c.seek-found.result ≡ c.args.quote = s.is (omega (arith, s.within)) in
+    let next : at c.args.text.now (c.seek-found.result + 1) ≡ c.args.quote = sym c.at.ensures ∙ c.if-at-quote.false in
+    let inside : c.seek-found.result + 1 < length c.args.text.now = byte_within _ _ _ c.requires.byte next in
+    record {
+      rises = omega (arith, s.rises);
+      within = omega (arith, inside);
+      to = λ end h. c.loop-place.invariant.to end (from_first _ _ end _ _ s (doubled _ here next h));
+      back = λ end h. over_doubled _ _ end _ here next (to_first _ _ end _ _ s (c.loop-place.invariant.back end h))
+    }
 
 pub returns-clause-none : goal.returns-clause-none
 returns-clause-none c = λ end h. past_end _ _ end _ c.requires.byte (omega arith) (c.loop-place.invariant.back end h)

@@ -5,6 +5,7 @@ use Rattle.al_tokens.proofs.bytes.closed.Given as goal
 abbrev pub invariant-loop-place : goal.invariant-loop-place
 invariant-loop-place l = record {
   rises : l.from ≤ l.place;
+  within : l.place ≤ length l.text;
   to : (end : ℕ) → Closed l.quote l.text end l.place → Closed l.quote l.text end l.from;
   back : (end : ℕ) → Closed l.quote l.text end l.from → Closed l.quote l.text end l.place
 }

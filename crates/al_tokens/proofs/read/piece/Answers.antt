@@ -30,22 +30,22 @@ pub returns-in-Comment-clause-found : goal.returns-in-Comment-clause-found
 returns-in-Comment-clause-found c =
     let e : begun_at c.args.text.now c.args.place ≡ begins.Comment = cc in
     let both = from_comment _ _ e in
-    inr (both.0, both.1, c.run_end.ensures)
+    inr (both.0, both.1, c.seek.ensures)
 
 pub returns-in-Comment-clause-rises : goal.returns-in-Comment-clause-rises
 returns-in-Comment-clause-rises c =
     let e : begun_at c.args.text.now c.args.place ≡ begins.Comment = cc in
-    (comment_rises _ _ _ c.requires.inside (from_comment _ _ e).0 c.run_end.ensures, c.run_end.ensures.within)
+    (comment_rises _ _ _ c.requires.inside (from_comment _ _ e).0 c.seek.ensures, c.seek.ensures.within)
 
 pub returns-in-Word-clause-found : goal.returns-in-Word-clause-found
 returns-in-Word-clause-found c =
     let e : begun_at c.args.text.now c.args.place ≡ begins.Word = cc in
-    (from_word _ _ e, c.run_end-in-Word.ensures)
+    (from_word _ _ e, c.run_end.ensures)
 
 pub returns-in-Word-clause-rises : goal.returns-in-Word-clause-rises
 returns-in-Word-clause-rises c =
     let e : begun_at c.args.text.now c.args.place ≡ begins.Word = cc in
-    (word_rises _ _ _ c.requires.inside (from_word _ _ e) c.run_end-in-Word.ensures, c.run_end-in-Word.ensures.within)
+    (word_rises _ _ _ c.requires.inside (from_word _ _ e) c.run_end.ensures, c.run_end.ensures.within)
 
 pub returns-in-Sign-clause-found : goal.returns-in-Sign-clause-found
 returns-in-Sign-clause-found c =
