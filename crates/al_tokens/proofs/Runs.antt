@@ -1,5 +1,5 @@
 -- Runs of bytes, and what is closed.
-use Rattle.std.proofs.Common.{◌≡◌, ℕ, ◌+◌, ◌-◌, zero, suc, get_or, drop, take, take_all, ◌<◌, ◌≤◌, ◌⊎◌, inl, inr, Bool, true, false, List, [], ◌∷◌, length, Option, Some, None, refl, sym, ap, ◌∙◌, arith, subst}
+use Rattle.std.proofs.Common.{◌≡◌, ℕ, ◌+◌, ◌-◌, zero, suc, get_or, drop, take, take_all, ◌<◌, ◌≤◌, Bool, true, false, List, length, sym, ap, ◌∙◌, arith, subst}
 use Rattle.std.specs.Prelude.{◌==◌, slice_index}
 use Rattle.std.proofs.lemmas.List.{get_or_past, get_or-drop}
 use Rattle.std.proofs.Math.ListN.{length-drop}
@@ -109,7 +109,7 @@ module _ (byte : ℕ) (text : List ℕ) (i : ℕ) (le : i ≤ length text) where
     rises = le;
     within = omega arith;
     before = λ k a b e. none (k - i) (omega arith) (omega (arith, size)) (byte_of k a e);
-    is = λ lt. absurd (omega (arith, lt))
+    is = λ lt. absurd (omega (arith, lt));
   }
 
   pub found_after : (m : ℕ) → m < length from_on → ((k : ℕ) → 0 ≤ k → k < m → (slice_index from_on k == byte) ≡ true → ⊥) → (slice_index from_on m == byte) ≡ true → First byte text i (i + m)
@@ -119,5 +119,5 @@ module _ (byte : ℕ) (text : List ℕ) (i : ℕ) (le : i ≤ length text) where
         rises = omega arith;
         within = omega arith;
         before = λ k a b e. none (k - i) (omega arith) (omega arith) (byte_of k a e);
-        is = λ l. sym (ap (λ (xs : List ℕ). get_or xs m 0) from_on_is ∙ get_or-drop i text m 0) ∙ eqb-true _ byte here
+        is = λ l. sym (ap (λ (xs : List ℕ). get_or xs m 0) from_on_is ∙ get_or-drop i text m 0) ∙ eqb-true _ byte here;
       }

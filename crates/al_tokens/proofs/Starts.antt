@@ -1,9 +1,9 @@
 -- What a byte begins, read backwards.
-use Rattle.std.proofs.Common.{◌≡◌, ℕ, ◌+◌, ◌<◌, ◌≤◌, ◌⊎◌, inl, inr, Bool, true, false, List, [], ◌∷◌, length, Option, Some, None, refl, sym, ap, ◌∙◌, arith, subst}
+use Rattle.std.proofs.Common.{◌≡◌, ℕ, ◌+◌, ◌<◌, ◌≤◌, ◌⊎◌, inl, inr, Bool, true, false, List, length, Option, Some, None, refl, sym, ap, ◌∙◌, arith, subst}
 use Rattle.std.specs.Prelude.{◌&&◌, ◌==◌, if◌then◌else◌}
 use Rattle.std.specs.Char.{is_ascii_digit}
 use Rattle.std.proofs.lemmas.List.{get_or_past}
-use Rattle.std.proofs.lemmas.Bool.{eqb-true, ne_eqb, eqb-false}
+use Rattle.std.proofs.lemmas.Bool.{eqb-true, ne_eqb}
 use Rattle.std.proofs.lemmas.Bool.Decides.{nat_tests}
 use Rattle.al_tokens.specs.declared.kinds.Sign.{Sign}
 use Rattle.al_tokens.specs.declared.kinds.Sign.TheVariants as signs
@@ -242,8 +242,8 @@ word_rises text i end lt e r = run_rises classes.Word text i end lt (rw e refl) 
 pub comment_rises : (text : List ℕ) (i end : ℕ) → i < length text → at text i ≡ 45 → First 10 text i end → i < end
 comment_rises text i end lt e r =
     let no_end : i ≡ end → ⊥ = λ (same : i ≡ end).
-        let f : at text i ≡ 10 = ap (λ (x : ℕ). at text x) same ∙ r.is (omega arith) in
-        omega (arith, e, f) in
+    let f : at text i ≡ 10 = ap (λ (x : ℕ). at text x) same ∙ r.is (omega arith) in
+    omega (arith, e, f) in
     omega (arith, r.rises)
 
 -- ---- signs lie within the text
@@ -278,9 +278,9 @@ sign_fits text i s lt (inr short) = omega (arith, short_width (at text i) s shor
 sign_fits text i s lt (inl long) =
     let w = width_bounds s in
     let no : length text ≤ i + 1 → ⊥ = λ (past : length text ≤ i + 1).
-        let z : at text (i + 1) ≡ 0 = get_or_past text (i + 1) 0 past in
-        let n : long_sign (at text i) (at text (i + 1)) ≡ None = ap (λ (x : ℕ). long_sign (at text i) x) z ∙ long_none (at text i) in
-        absurd (cc (n, long)) in
+    let z : at text (i + 1) ≡ 0 = get_or_past text (i + 1) 0 past in
+    let n : long_sign (at text i) (at text (i + 1)) ≡ None = ap (λ (x : ℕ). long_sign (at text i) x) z ∙ long_none (at text i) in
+    absurd (cc (n, long)) in
     omega (arith, w.1)
 
 pub sign_within : (text : List ℕ) (i : ℕ) (s : Sign) → i < length text → begun_at text i ≡ begins.Sign s → (i < i + width s) × (i + width s ≤ length text)

@@ -1,5 +1,5 @@
 -- A text has one reading.
-use Rattle.std.proofs.Common.{◌≡◌, ℕ, ◌+◌, ◌<◌, ◌≤◌, ◌⊎◌, inl, inr, Bool, true, false, List, [], ◌∷◌, ◌++◌, length, Option, Some, None, refl, sym, ap, ◌∙◌, arith, subst}
+use Rattle.std.proofs.Common.{◌≡◌, ℕ, ◌+◌, ◌<◌, ◌≤◌, ◌⊎◌, inl, inr, List, [], ◌∷◌, ◌++◌, length, Option, Some, None, refl, sym, ap, ◌∙◌, arith, subst}
 use Rattle.std.proofs.lemmas.List.{get_or_past}
 use Rattle.al_tokens.specs.declared.kinds.TokenKind.{TokenKind}
 use Rattle.al_tokens.specs.declared.kinds.TokenKind.TheVariants as kinds
@@ -13,7 +13,7 @@ use Rattle.al_tokens.specs.declared.kinds.Sign.{Sign}
 use Rattle.al_tokens.specs.declared.bytes.Class.TheVariants as classes
 use Rattle.al_tokens.specs.declared.bytes.Begins.{Begins}
 use Rattle.al_tokens.specs.declared.bytes.Begins.TheVariants as begins
-use Rattle.al_tokens.specs.Bytes.{at, is_of, is_blank, Run, First, Closed}
+use Rattle.al_tokens.specs.Bytes.{at, is_of, Run, First, Closed}
 use Rattle.al_tokens.specs.Begun.{begun, begun_at, long_sign, short_sign}
 use Rattle.al_tokens.specs.Signs.{width}
 use Rattle.al_tokens.proofs.Starts.{leads, token_begun, gap_begun, name_begun, text_begun}
@@ -99,7 +99,7 @@ nothing_at_end text =
 pub dead_end : (text : List ℕ) → Dead text (length text)
 dead_end text = record {
   no_gap = λ end. no_gap_at text (length text) end (nothing_at_end text);
-  no_token = λ kind end. no_token_at text (length text) end kind (nothing_at_end text)
+  no_token = λ kind end. no_token_at text (length text) end kind (nothing_at_end text);
 }
 
 pub dead_stuck : (text : List ℕ) (i n : ℕ) → IsStuck text i n → Dead text i
@@ -143,9 +143,9 @@ tokens_or_fault text ts n r f =
 
 one_place : (text : List ℕ) (i m n : ℕ) → IsStuck text i m → IsStuck text i n → m ≡ n
 one_place text i m n s t = elim s.place [
-    inl a ↦ elim t.place [ inl b ↦ a.1 ∙ sym b.1 | inr b ↦ absurd (b.0 a.0) ]
+  | inl a ↦ elim t.place [ inl b ↦ a.1 ∙ sym b.1 | inr b ↦ absurd (b.0 a.0) ]
   | inr a ↦ elim t.place [ inl b ↦ absurd (a.0 b.0) | inr b ↦ a.1 ∙ sym b.1 ]
-  ]
+]
 
 pub one_fault : (text : List ℕ) (m n : ℕ) → FaultAt text m → FaultAt text n → m ≡ n
 one_fault text m n f g =
@@ -186,7 +186,7 @@ stuck_there text i lt e = record {
   within = lt;
   no_gap = λ m a. no_gap_at text i m e a;
   no_token = λ kind m a. no_token_at text i m kind e a;
-  place = inr (λ u. elim u [ inl a ↦ cc (e, name_begun text i a.0) | inr a ↦ cc (e, text_begun text i a.0) ], refl)
+  place = inr (λ u. elim u [ inl a ↦ cc (e, name_begun text i a.0) | inr a ↦ cc (e, text_begun text i a.0) ], refl);
 }
 
 no_gap_quoted : (text : List ℕ) (i end : ℕ) → begun_at text i ≡ begins.QuotedName → IsGap text i end → ⊥
@@ -207,5 +207,5 @@ empty_name text i end lt q shut empty =
       within = lt;
       no_gap = λ m a. no_gap_quoted text i m e a;
       no_token = λ kind m a. let n = only_name text i m kind e a in n.1 (one_end 34 text m end (i + 1) n.0 shut ∙ empty);
-      place = inr (not_unclosed text i end e shut, refl)
+      place = inr (not_unclosed text i end e shut, refl);
     }

@@ -1,5 +1,5 @@
 -- What a byte begins, as a test.
-use Rattle.std.specs.Prelude.{◌≡◌, ℕ, ◌+◌, Bool, ◌||◌, ◌&&◌, List, Option, Some, None, if◌then◌else◌, ◌==◌}
+use Rattle.std.specs.Prelude.{ℕ, ◌+◌, ◌&&◌, List, Option, Some, None, if◌then◌else◌, ◌==◌}
 use Rattle.std.specs.Char.{is_ascii_digit}
 use Rattle.al_tokens.specs.declared.kinds.Sign.{Sign}
 use Rattle.al_tokens.specs.declared.kinds.Sign.TheVariants as signs

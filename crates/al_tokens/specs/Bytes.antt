@@ -1,5 +1,5 @@
 -- Kinds of bytes in SQL, and how far they go.
-use Rattle.std.specs.Prelude.{◌≡◌, ℕ, ◌+◌, ◌<◌, ◌≤◌, Bool, true, false, not, ◌||◌, ◌&&◌, List, length, get_or, Option, Some, None, if◌then◌else◌, nat_le, ◌==◌}
+use Rattle.std.specs.Prelude.{◌≡◌, ℕ, ◌+◌, ◌<◌, ◌≤◌, Bool, true, false, ◌||◌, ◌&&◌, List, length, get_or, nat_le, ◌==◌}
 use Rattle.std.specs.Char.{is_ascii_alphabetic, is_ascii_digit}
 use Rattle.al_tokens.specs.declared.bytes.Class.{Class}
 use Rattle.al_tokens.specs.declared.bytes.Class.TheVariants as classes
@@ -12,6 +12,7 @@ at text i = get_or text i 0
 abbrev pub is_blank : ℕ → Bool
 is_blank b = b == 32 || (nat_le 9 b && nat_le b 13)
 
+-- an ASCII letter or `_`
 abbrev pub begins_word : ℕ → Bool
 begins_word b = is_ascii_alphabetic b || b == 95
 

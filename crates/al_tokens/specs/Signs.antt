@@ -12,7 +12,8 @@ width signs.Joined = 2
 width signs.Cast = 2
 width s = 1
 
--- A byte and the next one begin a sign. A short sign isn't taken where the next byte makes it a longer one or a comment.
+-- A byte and the next one begin a sign. A short sign isn't taken where the next byte makes it a longer one or a comment:
+-- `( ) , ; . =`, `<>` or `!=`, `<`, `<=`, `>`, `>=`, `+ - * / %`, `||` and `::`.
 abbrev pub Spells : Sign → ℕ → ℕ → Type 0
 Spells signs.LeftParen b next = b ≡ 40
 Spells signs.RightParen b next = b ≡ 41

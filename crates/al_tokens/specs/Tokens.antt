@@ -1,5 +1,5 @@
 -- The tokens of a text of SQL, and where it has none.
-use Rattle.std.specs.Prelude.{◌≡◌, ℕ, ◌+◌, ◌<◌, ◌≤◌, Bool, true, false, ◌⊎◌, List, [], ◌∷◌, length, Option, Some, None, Result, Ok, Err}
+use Rattle.std.specs.Prelude.{◌≡◌, ℕ, ◌+◌, ◌<◌, ◌≤◌, true, false, ◌⊎◌, List, [], ◌∷◌, length, Option, Some, None, Result, Ok, Err}
 use Rattle.al_values.specs.declared.cant.Cant.{Cant}
 use Rattle.al_values.specs.declared.cant.Cant.TheVariants as cants
 use Rattle.al_tokens.specs.declared.kinds.TokenKind.{TokenKind}
@@ -10,13 +10,13 @@ use Rattle.al_tokens.specs.Bytes.{at, is_blank, begins_word, is_of, Run, First, 
 use Rattle.al_tokens.specs.Signs.{width, Spells}
 use Rattle.std.specs.Char.{is_ascii_digit}
 
--- What parts tokens: a blank, or a comment up to its line feed or the text's end.
+-- What parts tokens: a blank, or two dashes (45) with all up to the line feed (10) or the text's end.
 abbrev pub IsGap : List ℕ → ℕ → ℕ → Type 0
 IsGap text i end = ((is_blank (at text i) ≡ true) × (end ≡ i + 1)) ⊎ ((at text i ≡ 45) × (at text (i + 1) ≡ 45) × First 10 text i end)
 
 -- A token of a kind stands from a place to an end. A word is as long as it can be. An integer is digits that no letter
 -- and no point follows; otherwise the digits, and as many letters, digits and points as follow, are an odd number.
--- What is quoted goes to its closing quote, and a quoted name isn't empty.
+-- A name in double quotes (34), not empty, or a text in single quotes (39), goes to its closing quote.
 abbrev pub IsToken : TokenKind → List ℕ → ℕ → ℕ → Type 0
 IsToken kinds.Word text i end = (begins_word (at text i) ≡ true) × Run classes.Word text i end
 IsToken kinds.Integer text i end = (is_ascii_digit (at text i) ≡ true) × Run classes.Digit text i end × (is_of classes.Number (at text end) ≡ false)

@@ -144,11 +144,7 @@ pub fn width(sign: Sign) -> usize
     ensures { result ≡ width sign }
 {
     match sign {
-        Sign::NotEqual
-        | Sign::LessOrEqual
-        | Sign::GreaterOrEqual
-        | Sign::Joined
-        | Sign::Cast => 2,
+        Sign::NotEqual | Sign::LessOrEqual | Sign::GreaterOrEqual | Sign::Joined | Sign::Cast => 2,
         _ => 1,
     }
 }

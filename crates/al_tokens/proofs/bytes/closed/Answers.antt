@@ -21,7 +21,7 @@ loop-place-preserved c =
       rises = omega (arith, s.rises);
       within = omega (arith, inside);
       to = λ end h. c.loop-place.invariant.to end (from_first _ _ end _ _ s (doubled _ here next h));
-      back = λ end h. over_doubled _ _ end _ here next (to_first _ _ end _ _ s (c.loop-place.invariant.back end h))
+      back = λ end h. over_doubled _ _ end _ here next (to_first _ _ end _ _ s (c.loop-place.invariant.back end h));
     }
 
 pub returns-clause-none : goal.returns-clause-none

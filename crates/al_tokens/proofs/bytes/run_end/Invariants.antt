@@ -6,7 +6,7 @@ abbrev pub invariant-loop-end : goal.invariant-loop-end
 invariant-loop-end l = record {
   rises : l.from ≤ l.end;
   within : l.end ≤ length l.text;
-  each : (k : ℕ) → l.from ≤ k → k < l.end → is_of l.class (at l.text k) ≡ true
+  each : (k : ℕ) → l.from ≤ k → k < l.end → is_of l.class (at l.text k) ≡ true;
 }
 
 abbrev pub decreases-loop-end : goal.decreases-loop-end

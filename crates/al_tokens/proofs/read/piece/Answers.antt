@@ -1,7 +1,6 @@
-use Rattle.std.proofs.Common.{◌≡◌, ◌+◌, ap, inl, inr, refl}
+use Rattle.std.proofs.Common.{◌≡◌, inl, inr, refl}
 use Rattle.al_tokens.specs.declared.bytes.Begins.TheVariants as begins
 use Rattle.al_tokens.specs.Begun.{begun_at}
-use Rattle.al_tokens.specs.Signs.{width}
 use Rattle.al_tokens.proofs.Starts.{word_rises, comment_rises, sign_within, from_blank, from_comment, from_word, from_digit, from_name, from_text, from_sign}
 use Rattle.al_tokens.proofs.Unique.{stuck_there}
 use Rattle.al_tokens.proofs.read.piece.Goals as goal

@@ -1,5 +1,5 @@
-use Rattle.std.proofs.Common.{refl, sym, ◌∙◌, arith, rules, length, subst}
-use Rattle.al_tokens.specs.Tokens.{Reads, here}
+use Rattle.std.proofs.Common.{refl, arith}
+use Rattle.al_tokens.specs.Tokens.{here}
 use Rattle.al_tokens.proofs.Unique.{read_token, read_gap}
 use Rattle.al_tokens.proofs.read.read.Goals as goal
 

@@ -1,5 +1,5 @@
 use Rattle.std.proofs.Common.{ℕ, List, Ok, Err, subst}
-use Rattle.std.specs.Prelude.{IfOk, length}
+use Rattle.std.specs.Prelude.{IfOk}
 use Rattle.al_values.specs.Gives.{GivesUnlessNoMemory}
 use Rattle.al_tokens.specs.declared.kinds.Token.{Token}
 use Rattle.al_tokens.specs.Tokens.{AreTokens, FaultAt, Spans}
