@@ -16,7 +16,7 @@ pub fn is_in_way(request: Grant, other: Grant) -> bool
         && conflicts(other.mode, request.mode)
 }
 
-/// Whether one of a list is.
+/// Whether one of a list is in the way of a request.
 pub fn any_in_way(request: Grant, others: &[Grant]) -> bool
     ensures { result ≡ list_any (is_in_way request) others.now }
 {
@@ -30,14 +30,14 @@ pub fn is_held_up(request: Grant, held: &[Grant], ahead: &[Grant]) -> bool
     any_in_way(request, held) || any_in_way(request, ahead)
 }
 
-/// Whether one of a list is, which a session has.
+/// Whether one of a list that a session has is in the way of a request.
 pub fn any_of_session(session: u32, request: Grant, others: &[Grant]) -> bool
     ensures { result ≡ list_any (is_in_way_of session request) others.now }
 {
     others.iter().any(|other| other.session == session && is_in_way(request, *other))
 }
 
-/// Whether one of a list is a session's, for a table in a mode.
+/// Whether a session has a lock of a table in a mode among these.
 pub fn any_like(session: u32, table: u32, mode: Mode, locks: &[Grant]) -> bool
     ensures { result ≡ list_any (is_like session table mode) locks.now }
 {
@@ -48,7 +48,7 @@ pub fn any_like(session: u32, table: u32, mode: Mode, locks: &[Grant]) -> bool
     })
 }
 
-/// The lesser of a session found so far and that of another request, where this is in the way.
+/// The lesser of a session found so far and that of another lock or request, where this is in the way.
 fn lesser(request: Grant, found: Option<u32>, other: Grant) -> Option<u32>
     ensures { result ≡ lesser request found other }
 {
@@ -79,7 +79,7 @@ pub fn count_of_table(table: u32, requests: &[Grant]) -> usize
     requests.iter().filter(|other| other.table == table).count()
 }
 
-/// The place of a session's request.
+/// The place of a session's request, where it has one.
 pub fn position_of(session: u32, requests: &[Grant]) -> Option<usize>
     ensures { result ≡ position (λ request. request.session == session) requests.now }
 {

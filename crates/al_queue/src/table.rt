@@ -160,7 +160,7 @@ impl LockTable {
         self.granted.len() as u32
     }
 
-    /// One of the requests that the last release or withdrawal granted, their tables in ascending number.
+    /// The request at a place among those that the last release or withdrawal granted, whose tables ascend.
     pub fn granted(&self, i: u32) -> Grant
         requires { i < length self.now.locks.granted }
         ensures { slice_get self.now.locks.granted i ≡ Some result }
