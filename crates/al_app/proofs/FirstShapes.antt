@@ -1,5 +1,5 @@
 -- What the public call says of what was read.
-use Rattle.std.proofs.Common.{◌≡◌, ℕ, zero, suc, ◌+◌, Bool, true, false, not, cond, List, [], ◌∷◌, ◌++◌, length, map, Option, Some, Result, Ok, Err, refl, sym, ap, subst, arith}
+use Rattle.std.proofs.Common.{◌≡◌, ℕ, zero, suc, ◌+◌, Bool, true, false, not, cond, List, [], ◌∷◌, ◌++◌, length, map, Option, Some, Result, Ok, Err, refl, sym, ap, subst, arith, ◌<◌}
 use Rattle.std.specs.Prelude.{position, nat_lt, slice_get, IfOk}
 use Rattle.std.specs.List.{position_or_len, AllByRecursion}
 use Rattle.std.specs.Str.{bytes_eq}
@@ -18,6 +18,7 @@ use Rattle.al_history.specs.declared.statement.ScriptBlock.{ScriptBlock}
 use Rattle.al_history.specs.declared.statement.Scripts.{Scripts}
 use Rattle.al_app.specs.FirstSteps.{Gives}
 use Rattle.al_app.specs.First.{Step, Parts, setup_block, step_block, is_step_part, is_step, EachWith, IsScript, IsFirst}
+use Rattle.al_engine.specs.Ran.{IsSingle}
 use Rattle.al_app.specs.FirstShape.{IsSetup, IsStep, IsStepAt, HasOne, IsFirstShape}
 use Rattle.al_app.specs.FirstReading.{first_of}
 use Rattle.al_app.proofs.FirstFiles.{both, first_takes, first_again}
@@ -108,10 +109,30 @@ one_each [] (s ∷ ss) h = absurd h
 one_each (b ∷ bs) [] h = absurd h
 one_each (b ∷ bs) (s ∷ ss) h = (record { session = ap (λ (x : ScriptBlock). x.session) h.0.2; one = h.0.0; alone = ap (λ (x : ScriptBlock). x.script) h.0.2 }, one_each bs ss h.1)
 
+-- each block is of the control session or of the one session
+abbrev IsKnown : Block → Type 0
+IsKnown b = b.session < 2
+
+steps_known : (steps : List Step) → AllByRecursion IsKnown (map step_block steps)
+steps_known [] = tt
+steps_known (s ∷ steps) = (omega arith, steps_known steps)
+
+all_known : (texts : List (List ℕ)) (steps : List Step) → AllByRecursion IsKnown (map setup_block texts ++ map step_block steps)
+all_known [] steps = steps_known steps
+all_known (t ∷ texts) steps = (omega arith, all_known texts steps)
+
+all_single : (bs : List Block) (ss : List ScriptBlock) → EachWith HasOne bs ss → AllByRecursion IsKnown bs → AllByRecursion (IsSingle 2) ss
+all_single [] [] h known = tt
+all_single [] (s ∷ ss) h known = absurd h
+all_single (b ∷ bs) [] h known = absurd h
+all_single (b ∷ bs) (s ∷ ss) h known = (record { known = omega (arith, h.0.session, known.0); has_one = rw h.0.alone refl; has_no_more = rw h.0.alone refl }, all_single bs ss h.1 known.1)
+
 shape : (bytes : List ℕ) (spec : Spec) (scripts : Scripts) → IsFirst bytes spec scripts → IsFirstShape spec scripts
 shape bytes spec scripts h =
     let p : Parts = h.parts in
     let runs : AllByRecursion Runs spec.blocks = subst (λ (bs : List Block). AllByRecursion Runs bs) (sym h.blocks) (all_run p.setups p.steps) in
+    let known : AllByRecursion IsKnown spec.blocks = subst (λ (bs : List Block). AllByRecursion IsKnown bs) (sym h.blocks) (all_known p.setups p.steps) in
+    let ones : EachWith HasOne spec.blocks scripts.blocks = one_each spec.blocks scripts.blocks h.scripts_are in
     record {
       sessions = h.two;
       setups = map setup_block p.setups;
@@ -123,7 +144,8 @@ shape bytes spec scripts h =
       one_permutation = h.permutations;
       name_steps = all_steps spec.blocks p.named h.numbers runs h.numbered;
       few = omega (arith, length-map p.setups setup_block, as_many _ p.named h.numbers h.numbered, h.few);
-      scripts_are = one_each spec.blocks scripts.blocks h.scripts_are;
+      scripts_are = ones;
+      single = rw h.two (all_single spec.blocks scripts.blocks ones known);
     }
 
 pub has_shape : (bytes : List ℕ) (r : Result (Spec × Scripts) (Cant SpecFault)) → Gives (λ x. x) r (first_of bytes) → IfOk r (λ v. IsFirstShape v.0 v.1)

@@ -1,8 +1,3 @@
-pub mod Phases
-pub mod Step
-pub mod StoredLemmas
-pub mod AfterLemmas
-pub mod EngineLemmas
 pub mod RunLemmas
 pub mod FirstLexing
 pub mod FirstLoops

@@ -7,6 +7,7 @@ use Rattle.al_history.specs.declared.spec.Spec.{Spec}
 use Rattle.al_history.specs.declared.statement.Statement.{Statement}
 use Rattle.al_history.specs.declared.statement.ScriptBlock.{ScriptBlock}
 use Rattle.al_history.specs.declared.statement.Scripts.{Scripts}
+use Rattle.al_engine.specs.Ran.{AreSingle}
 use Rattle.al_app.specs.First.{EachWith}
 
 -- a setup block is the control session's, a step that of the one session
@@ -43,3 +44,4 @@ pub record IsFirstShape (spec : Spec) (scripts : Scripts) : Type 0 where
   pub name_steps : AllByRecursion (IsStepAt spec.blocks) numbers
   pub few : length setups + length numbers ≤ 100
   pub scripts_are : EachWith HasOne spec.blocks scripts.blocks
+  pub single : AreSingle scripts

@@ -1,9 +1,3 @@
-pub mod Rest
-pub mod Steps
-pub mod Stored
-pub mod After
-pub mod Ran
-pub mod Kept
 pub mod Runs
 pub mod FirstSteps
 pub mod FirstOutside

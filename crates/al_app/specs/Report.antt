@@ -35,6 +35,7 @@ cause_text (causes.NoTable name) = concat (codes "42P01: table \"" ∷ name ∷ 
 cause_text (causes.TwiceTable name) = concat (codes "42P07: table \"" ∷ name ∷ codes "\" already exists" ∷ [])
 cause_text (causes.TwiceColumn name) = concat (codes "42701: column \"" ∷ name ∷ codes "\" already exists" ∷ [])
 cause_text (causes.Count want got) = many_values_text want got
+cause_text (causes.Cancelled entry) = codes "57014: cancelled"
 
 -- a command tag, an INSERT's with its count
 abbrev pub tag_text : Tag → ℕ → List ℕ

@@ -2,8 +2,6 @@
 #![tactic(auto)]
 
 mod answers;
-mod counts;
-mod engine;
 mod first;
 mod report;
 mod runs;

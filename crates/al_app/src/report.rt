@@ -28,6 +28,7 @@ fn push_cause(text: &mut String, cause: &Cause) -> Result<(), NoMemory>
         Cause::TwiceTable { name } => write!(text, "42P07: table \"{name}\" already exists")?,
         Cause::TwiceColumn { name } => write!(text, "42701: column \"{name}\" already exists")?,
         Cause::Count { want, got } => push_many_values(text, *want, *got)?,
+        Cause::Cancelled { .. } => write!(text, "57014: cancelled")?,
     }
     Ok(())
 }

@@ -4,7 +4,7 @@ use Rattle.std.specs.Prelude.{◌==◌}
 use Rattle.std.proofs.lemmas.List.{reverse-append, length-reverse}
 use Rattle.std.proofs.lemmas.Bool.{eq-eqb}
 use Rattle.al_history.specs.declared.entry.Entry.{Entry}
-use Rattle.al_history.specs.declared.entry.Entry.TheVariants.{Give, Start, Look, Make, Add, Read, Alter, Done, Refuse, Commit, Abort, End, Close}
+use Rattle.al_history.specs.declared.entry.Entry.TheVariants.{Give, Start, Look, Make, Add, Read, Alter, Done, Refuse, Commit, Abort, Cancel, End, Close}
 use Rattle.al_history.specs.Past.{Past}
 use Rattle.al_history.specs.Hand.{xact_of}
 use Rattle.al_history.specs.Fate.{is_that}
@@ -38,5 +38,6 @@ xact_below (Done r reply ∷ past) s x e = omega (arith, xact_below past s x e)
 xact_below (Refuse r cause ∷ past) s x e = omega (arith, xact_below past s x e)
 xact_below (Commit y ∷ past) s x e = some_of_cond (is_that (xact_of past s) y) None (xact_of past s) x (λ z. z < suc (length past)) (λ h. absurd cc) (λ h. omega (arith, xact_below past s x h)) e
 xact_below (Abort y ∷ past) s x e = some_of_cond (is_that (xact_of past s) y) None (xact_of past s) x (λ z. z < suc (length past)) (λ h. absurd cc) (λ h. omega (arith, xact_below past s x h)) e
+xact_below (Cancel r ∷ past) s x e = omega (arith, xact_below past s x e)
 xact_below (End r ∷ past) s x e = omega (arith, xact_below past s x e)
 xact_below (Close r ∷ past) s x e = omega (arith, xact_below past s x e)

@@ -26,6 +26,7 @@ letter (Some (causes.NoTable name)) = slice_index name 0
 letter (Some (causes.TwiceTable name)) = slice_index name 0
 letter (Some (causes.TwiceColumn name)) = slice_index name 0
 letter (Some (causes.Count want got)) = 0
+letter (Some (causes.Cancelled entry)) = 0
 
 -- a statement is refused for a name that isn't the one in the way
 refused_for_other_name : IsLegal again (looked_again ++ Refuse 0 (causes.TwiceTable name_u) ∷ []) → ⊥

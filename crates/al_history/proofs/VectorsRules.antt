@@ -5,7 +5,7 @@ use Rattle.al_history.specs.declared.entry.Level.TheVariants as levels
 use Rattle.al_history.specs.declared.entry.Reply.{Reply}
 use Rattle.al_history.specs.declared.entry.Cause.{Cause}
 use Rattle.al_history.specs.declared.entry.Entry.{Entry}
-use Rattle.al_history.specs.declared.entry.Entry.TheVariants.{Give, Start, Look, Make, Add, Read, Alter, Done, Refuse, Commit, Abort, End, Close}
+use Rattle.al_history.specs.declared.entry.Entry.TheVariants.{Give, Start, Look, Make, Add, Read, Alter, Done, Refuse, Commit, Abort, Cancel, End, Close}
 use Rattle.al_history.specs.declared.statement.Column.{Column}
 use Rattle.al_history.specs.declared.statement.ScriptBlock.{ScriptBlock}
 use Rattle.al_history.specs.declared.statement.Scripts.{Scripts}
@@ -75,6 +75,10 @@ may_commit open_xact in_step none_left none_refused follows = record { rule = re
 -- an Abort
 pub may_abort : {scripts : Scripts} {past : Past} {x : ℕ} → xact_of past (session_of past x) ≡ Some x → (refused past (session_of past x) ≡ true) ⊎ (hand past (session_of past x) ≡ None) → Follows (owed scripts past) (Abort x) → MayCome scripts past (Abort x)
 may_abort open_xact refused_or_idle follows = record { rule = record { open_xact = open_xact; refused_or_idle = refused_or_idle }; follows = follows; alone = tt }
+
+-- a Cancel
+pub may_cancel : {scripts : Scripts} {past : Past} {s : ℕ} → IsSome (hand past s) → Follows (owed scripts past) (Cancel s) → MayCome scripts past (Cancel s)
+may_cancel in_step follows = record { rule = record { in_step = in_step }; follows = follows; alone = tt }
 
 -- an End
 pub may_end : {scripts : Scripts} {past : Past} {s : ℕ} → IsSome (hand past s) → (in_hand scripts past s ≡ None) ⊎ (refused past s ≡ true) → implicit_of past s ≡ None → Follows (owed scripts past) (End s) → MayCome scripts past (End s)

@@ -3,7 +3,7 @@ use Rattle.std.proofs.Common.{◌≡◌, ℕ, ◌<◌, ◌≤◌, [], ◌∷◌,
 use Rattle.std.specs.Prelude.{◌==◌}
 use mathlib.Core.Path.{fun_ext}
 use Rattle.std.proofs.lemmas.Bool.{eqb-true, ne_eqb}
-use Rattle.al_history.specs.declared.entry.Entry.TheVariants.{Give, Start, Look, Make, Add, Read, Alter, Done, Refuse, Commit, Abort, End, Close}
+use Rattle.al_history.specs.declared.entry.Entry.TheVariants.{Give, Start, Look, Make, Add, Read, Alter, Done, Refuse, Commit, Abort, Cancel, End, Close}
 use Rattle.al_history.specs.declared.statement.Scripts.{Scripts}
 use Rattle.al_history.specs.Past.{Past}
 use Rattle.al_history.specs.Fate.{Open, Committed, Aborted, fate, Standing, Inside, standing, inside_if, outside_if}
@@ -38,6 +38,7 @@ views_agree scripts (Done r reply ∷ past) f g l h = views_agree scripts past f
 views_agree scripts (Refuse r cause ∷ past) f g l h = views_agree scripts past f g l.1 (λ z lt. h z (omega arith))
 views_agree scripts (Commit x ∷ past) f g l h = views_agree scripts past f g l.1 (λ z lt. h z (omega arith))
 views_agree scripts (Abort x ∷ past) f g l h = views_agree scripts past f g l.1 (λ z lt. h z (omega arith))
+views_agree scripts (Cancel r ∷ past) f g l h = views_agree scripts past f g l.1 (λ z lt. h z (omega arith))
 views_agree scripts (End r ∷ past) f g l h = views_agree scripts past f g l.1 (λ z lt. h z (omega arith))
 views_agree scripts (Close r ∷ past) f g l h = views_agree scripts past f g l.1 (λ z lt. h z (omega arith))
 

@@ -1,8 +1,9 @@
 -- Why a statement is refused (Appendix A; CREATE TABLE, INSERT, SELECT, ALTER TABLE in Part VI).
-use Rattle.std.specs.Prelude.{ℕ, List, [], ◌∷◌, ◌++◌, Bool, cond, length, nat_lt, Option, Some, None, is_some, option_and_then, Result, Ok, Err}
+use Rattle.std.specs.Prelude.{ℕ, List, [], ◌∷◌, ◌++◌, ◌==◌, Bool, cond, length, nat_lt, Option, Some, None, is_some, option_and_then, Result, Ok, Err}
 use Rattle.std.specs.List.{list_any}
 use Rattle.al_history.specs.declared.entry.Cause.{Cause}
 use Rattle.al_history.specs.declared.entry.Cause.TheVariants as causes
+use Rattle.al_history.specs.declared.entry.Entry.TheVariants.{Cancel}
 use Rattle.al_history.specs.declared.statement.Column.{Column}
 use Rattle.al_history.specs.declared.statement.Statement.{Statement}
 use Rattle.al_history.specs.declared.statement.Statement.TheVariants as statements
@@ -68,6 +69,19 @@ abbrev pub cause_at : Scripts → Past → ℕ → Statement → List ℕ → Op
 cause_at scripts past x statement acts None = name_cause statement (latest scripts past x)
 cause_at scripts past x statement acts (Some look) = look_cause statement acts (latest scripts past x) (latest scripts look x)
 
--- the cause for which the statement in hand has to be refused: the first that is true
+-- what is said of the statement in hand, whatever else is true, right after its step was cancelled
+abbrev pub cancel_cause : Past → ℕ → Option Cause
+cancel_cause (Cancel r ∷ past) s = cond (r == s) (Some (causes.Cancelled (length past))) None
+cancel_cause past s = None
+
+abbrev pub first_of : Option Cause → Option Cause → Option Cause
+first_of None cause = cause
+first_of (Some first) cause = Some first
+
+-- the first cause that is true of the statement in hand of an open transaction
+abbrev pub judged_cause : Scripts → Past → ℕ → Option Cause
+judged_cause scripts past s = option_and_then (λ x. option_and_then (λ statement. cause_at scripts past x statement (acts_of past s) (look_of past s)) (in_hand scripts past s)) (xact_of past s)
+
+-- the cause for which the statement in hand has to be refused
 abbrev pub cause_of : Scripts → Past → ℕ → Option Cause
-cause_of scripts past s = option_and_then (λ x. option_and_then (λ statement. cause_at scripts past x statement (acts_of past s) (look_of past s)) (in_hand scripts past s)) (xact_of past s)
+cause_of scripts past s = first_of (cancel_cause past s) (judged_cause scripts past s)

@@ -9,7 +9,7 @@ use Rattle.al_history.specs.declared.entry.Reply.TheVariants as replies
 use Rattle.al_history.specs.declared.entry.Cause.{Cause}
 use Rattle.al_history.specs.declared.entry.Rewritten.{Rewritten}
 use Rattle.al_history.specs.declared.entry.Entry.{Entry}
-use Rattle.al_history.specs.declared.entry.Entry.TheVariants.{Give, Start, Look, Make, Add, Read, Alter, Done, Refuse, Commit, Abort, End, Close}
+use Rattle.al_history.specs.declared.entry.Entry.TheVariants.{Give, Start, Look, Make, Add, Read, Alter, Done, Refuse, Commit, Abort, Cancel, End, Close}
 use Rattle.al_history.specs.declared.statement.Column.{Column}
 use Rattle.al_history.specs.declared.statement.ScriptBlock.{ScriptBlock}
 use Rattle.al_history.specs.declared.statement.Statement.{Statement}
@@ -133,6 +133,10 @@ pub record AbortRule (scripts : Scripts) (past : Past) (x : ℕ) : Type 0 where
   pub open_xact : xact_of past (session_of past x) ≡ Some x
   pub refused_or_idle : (refused past (session_of past x) ≡ true) ⊎ (hand past (session_of past x) ≡ None)
 
+-- a step in hand is cancelled
+pub record CancelRule (scripts : Scripts) (past : Past) (s : ℕ) : Type 0 where
+  pub in_step : IsSome (hand past s)
+
 -- a step ends when no statement is left or one was refused, and its implicit transaction has ended
 pub record EndRule (scripts : Scripts) (past : Past) (s : ℕ) : Type 0 where
   pub in_step : IsSome (hand past s)
@@ -158,5 +162,6 @@ Rule scripts past (Done s reply) = DoneRule scripts past s reply
 Rule scripts past (Refuse s cause) = RefuseRule scripts past s cause
 Rule scripts past (Commit x) = CommitRule scripts past x
 Rule scripts past (Abort x) = AbortRule scripts past x
+Rule scripts past (Cancel s) = CancelRule scripts past s
 Rule scripts past (End s) = EndRule scripts past s
 Rule scripts past (Close s) = CloseRule scripts past s

@@ -1,7 +1,8 @@
 -- What stands together at the end of a statement.
-use Rattle.std.specs.Prelude.{◌≡◌, ℕ, ◌∷◌, Option, Some, None}
+use Rattle.std.specs.Prelude.{◌≡◌, ℕ, ◌∷◌, length, Option, Some, None}
 use Rattle.al_history.specs.declared.entry.Entry.{Entry}
-use Rattle.al_history.specs.declared.entry.Entry.TheVariants.{Done, Refuse, Commit, Abort, End, Close}
+use Rattle.al_history.specs.declared.entry.Entry.TheVariants.{Done, Refuse, Commit, Abort, Cancel, End, Close}
+use Rattle.al_history.specs.declared.entry.Cause.TheVariants as causes
 use Rattle.al_history.specs.declared.statement.Statement.{Statement}
 use Rattle.al_history.specs.declared.statement.Scripts.{Scripts}
 use Rattle.al_history.specs.Past.{Past}
@@ -23,9 +24,11 @@ abbrev pub if_last : Option Statement → Entry → Option Entry
 if_last None next = Some next
 if_last (Some statement) next = None
 
--- the entry that has to come next, where one has to: after a Refuse the Abort of an open transaction; after the last
--- Done the Commit of an implicit one; after these the End of the step, or the Close of an idle session
+-- the entry that has to come next, where one has to: after a Cancel the Refuse of the statement in hand; after a Refuse
+-- the Abort of an open transaction; after the last Done the Commit of an implicit one; after these the End of the step,
+-- or the Close of an idle session
 abbrev pub owed : Scripts → Past → Option Entry
+owed scripts (Cancel s ∷ past) = Some (Refuse s (causes.Cancelled (length past)))
 owed scripts (Refuse s cause ∷ past) = Some (abort_or_end (xact_of past s) s)
 owed scripts (Done s reply ∷ past) = if_last (in_hand scripts (Done s reply ∷ past) s) (commit_or_end (implicit_of past s) s)
 owed scripts (Commit x ∷ past) = Some (End (session_of past x))

@@ -1,7 +1,7 @@
 -- The journal of a whole run: what the driver gives and closes, and who goes on in between (src/test/isolation/README).
 use Rattle.std.specs.Prelude.{◌≡◌, ℕ, zero, suc, List, [], ◌∷◌, ◌++◌, ◌+◌, ◌<◌, ◌≤◌, ◌==◌, Bool, true, false, cond, map, length, Option, Some, None, slice_get, option_map, unwrap_or, option_and_then, is_some}
 use Rattle.al_history.specs.declared.entry.Entry.{Entry}
-use Rattle.al_history.specs.declared.entry.Entry.TheVariants.{Give, Start, Look, Make, Add, Read, Alter, Done, Refuse, Commit, Abort, End, Close}
+use Rattle.al_history.specs.declared.entry.Entry.TheVariants.{Give, Start, Look, Make, Add, Read, Alter, Done, Refuse, Commit, Abort, Cancel, End, Close}
 use Rattle.al_history.specs.declared.spec.Block.{Block}
 use Rattle.al_history.specs.declared.spec.Part.{Part}
 use Rattle.al_history.specs.declared.spec.Part.TheVariants as parts
@@ -15,10 +15,11 @@ use Rattle.al_history.specs.Hand.{hand, session_of, closed}
 use Rattle.al_history.specs.Tail.{owed}
 use Rattle.al_history.specs.Legal.{IsLegal, HoldAlways}
 
--- the driver's entries, oldest first: the blocks that it gives and the sessions that it closes
+-- the driver's entries, oldest first: the blocks that it gives, the steps that it cancels and the sessions that it closes
 abbrev pub driver : Past → List Entry
 driver [] = []
 driver (Give s block ∷ past) = driver past ++ Give s block ∷ []
+driver (Cancel s ∷ past) = driver past ++ Cancel s ∷ []
 driver (Close s ∷ past) = driver past ++ Close s ∷ []
 driver (e ∷ past) = driver past
 
@@ -91,9 +92,10 @@ abbrev pub if_in_step : Option ℕ → Type 0 → Type 0
 if_in_step None turn = Unit {0}
 if_in_step (Some block) turn = turn
 
--- a block is given where no session can go on; what is no part of a statement's tail is of the least that can
+-- a block is given, and a step cancelled, where no session can go on; what is no part of a statement's tail is of the least that can
 abbrev pub InTurn : Scripts → Past → Entry → Type 0
 InTurn scripts past (Give s block) = IsIdle past
+InTurn scripts past (Cancel s) = IsIdle past
 InTurn scripts past (Close s) = Unit {0}
 InTurn scripts past (Start s level) = IsTurn (owed scripts past) past s
 InTurn scripts past (Done s reply) = IsTurn (owed scripts past) past s

@@ -63,6 +63,11 @@ pub enum Cause {
         /// How many values are given.
         got: u32,
     },
+    /// 57014: the step was cancelled.
+    Cancelled {
+        /// The place of its Cancel in the journal.
+        entry: u32,
+    },
 }
 
 /// A row of a rewritten table.
@@ -169,6 +174,11 @@ pub enum Entry {
     Abort {
         /// The transaction.
         xact: u32,
+    },
+    /// The step in hand is cancelled.
+    Cancel {
+        /// The session.
+        session: u32,
     },
     /// A step ended.
     End {

@@ -4,12 +4,14 @@
 
 mod cant;
 mod copied;
+mod counts;
 mod listed;
 mod scalar;
 mod text;
 
 pub use cant::{Cant, NoMemory};
 pub use copied::Copied;
+pub use counts::count_of;
 pub use listed::ListOf;
 pub use scalar::Value;
 pub use text::Txt;

@@ -3,4 +3,4 @@ use Rattle.al_app.proofs.RunLemmas.{is_run}
 use Rattle.al_app.proofs.runs.run_permutation.Goals as goal
 
 pub returns : goal.returns
-returns c = is_run _ _ _ _ _ c.finish.new.engine _ (search rules) (search rules) c.finish.ensures.rests (search rules)
+returns c = is_run _ _ _ _ _ c.finish.new.engine _ (search rules) (search rules) (search rules)

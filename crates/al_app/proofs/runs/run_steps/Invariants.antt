@@ -1,7 +1,6 @@
 use Rattle.std.proofs.Common.{take}
-use Rattle.al_app.specs.Ran.{Rests}
 use Rattle.al_app.specs.Runs.{StepsRan}
 use Rattle.al_app.proofs.runs.run_steps.Given as goal
 
 abbrev pub invariant-loop-step : goal.invariant-loop-step
-invariant-loop-step l = StepsRan l.spec l.initial.engine l.engine (take l.step-index l.steps) × Rests l.engine
+invariant-loop-step l = StepsRan l.spec l.initial.engine l.engine (take l.step-index l.steps)

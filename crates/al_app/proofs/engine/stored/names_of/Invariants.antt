@@ -1,6 +1,0 @@
-use Rattle.std.proofs.Common.{◌≡◌, take}
-use Rattle.al_app.specs.Stored.{names_of}
-use Rattle.al_app.proofs.engine.stored.names_of.Given as goal
-
-abbrev pub invariant-loop-column : goal.invariant-loop-column
-invariant-loop-column l = l.names ≡ names_of (take l.column-index l.columns)

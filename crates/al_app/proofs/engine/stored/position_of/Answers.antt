@@ -1,6 +1,0 @@
-use Rattle.std.proofs.Common.{sym}
-use Rattle.al_app.proofs.StoredLemmas.{named_at}
-use Rattle.al_app.proofs.engine.stored.position_of.Goals as goal
-
-pub returns-then-eq-clause-found : goal.returns-then-eq-clause-found
-returns-then-eq-clause-found c = named_at _ _ c.index-tables-at.result _ c.loop-at-test.true c.index-tables-at.is (sym c.if-eq.ensures) c.loop-at.invariant

@@ -1,0 +1,19 @@
+/// The session has a step in hand, so it can't be given another.
+#[derive(Clone, Copy, Debug, PartialEq, Eq)]
+pub struct Busy;
+
+/// What a turn of a session did.
+#[derive(Clone, Copy, Debug, PartialEq, Eq)]
+pub enum Told {
+    /// It made the entries at these places of the journal, from `from` up to and without `to`.
+    Went {
+        /// The place of the first.
+        from: u32,
+        /// The place after the last.
+        to: u32,
+        /// Whether a statement was refused.
+        refused: bool,
+    },
+    /// The session has no step in hand.
+    Idle,
+}

@@ -1,0 +1,13 @@
+ghost use Rattle.std.specs.Prelude.{◌≡◌, IfOk};
+
+use crate::NoMemory;
+
+/// A length as a number of the journal, which has 32 bits. A list that is longer than any journal counts as want of memory.
+pub fn count_of(length: usize) -> Result<u32, NoMemory>
+    ensures { IfOk result (λ count. count ≡ length) }
+{
+    match u32::try_from(length) {
+        Ok(count) => Ok(count),
+        Err(_) => Err(NoMemory),
+    }
+}
