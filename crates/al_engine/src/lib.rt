@@ -8,6 +8,8 @@ mod notes;
 mod sessions;
 mod steps;
 mod stored;
+#[cfg(test)]
+mod tests;
 mod told;
 
 pub use engine::Engine;
