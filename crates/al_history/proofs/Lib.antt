@@ -1,5 +1,6 @@
 pub mod Pasts
 pub mod Vectors
+pub mod VectorsBlocks
 pub mod VectorsCancel
 pub mod VectorsCauses
 pub mod VectorsRefused

@@ -1,9 +1,9 @@
 -- A step that is cancelled.
-use Rattle.std.specs.Prelude.{◌≡◌, [], ◌∷◌, ◌++◌, refl}
+use Rattle.std.specs.Prelude.{[], ◌∷◌, refl}
 use Rattle.std.proofs.Common.{inl, inr}
 use Rattle.al_history.specs.declared.entry.Level.TheVariants as levels
 use Rattle.al_history.specs.declared.entry.Cause.TheVariants as causes
-use Rattle.al_history.specs.declared.entry.Entry.TheVariants.{Give, Start, Look, Refuse, Abort, Cancel, End}
+use Rattle.al_history.specs.declared.entry.Entry.TheVariants.{Give, Start, Refuse, Abort, Cancel, End}
 use Rattle.al_history.specs.Legal.{IsLegal}
 use Rattle.al_history.proofs.Vectors.{name_t, insert}
 use Rattle.al_history.proofs.VectorsCauses.{one_block}

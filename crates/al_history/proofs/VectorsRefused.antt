@@ -26,6 +26,7 @@ letter (Some (causes.NoTable name)) = slice_index name 0
 letter (Some (causes.TwiceTable name)) = slice_index name 0
 letter (Some (causes.TwiceColumn name)) = slice_index name 0
 letter (Some (causes.Count want got)) = 0
+letter (Some (causes.BlockFailed refuse)) = 0
 letter (Some (causes.Cancelled entry)) = 0
 
 -- a statement is refused for a name that isn't the one in the way
@@ -113,7 +114,7 @@ start_after_abort l = cc l.0.follows
 
 -- a transaction aborts in its step, where nothing was refused
 abort_for_nothing : IsLegal scripts (looked_create ++ Abort 1 ∷ []) → ⊥
-abort_for_nothing l = elim l.0.rule.refused_or_idle [ inl was ↦ cc was | inr idle ↦ cc idle ]
+abort_for_nothing l = elim l.0.rule.refused_or_idle [ inl was ↦ elim was [ inl refused ↦ cc refused | inr idle ↦ cc idle ] | inr rollback ↦ cc rollback ]
 
 -- a transaction aborts in place of its Commit
 abort_for_commit : IsLegal scripts (done_create ++ Abort 1 ∷ []) → ⊥

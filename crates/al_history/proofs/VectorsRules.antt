@@ -10,11 +10,12 @@ use Rattle.al_history.specs.declared.statement.Column.{Column}
 use Rattle.al_history.specs.declared.statement.ScriptBlock.{ScriptBlock}
 use Rattle.al_history.specs.declared.statement.Scripts.{Scripts}
 use Rattle.al_history.specs.Past.{Past}
-use Rattle.al_history.specs.Hand.{hand, refused, dones, in_hand, xact_of, implicit_of, session_of, look_of, acts_of, closed}
+use Rattle.al_history.specs.Hand.{hand, refused, dones, in_hand, xact_of, implicit_of, session_of, look_of, acts_of, closed, BlockState, NoBlock, OpenBlock, FailedBlock, block_state, if_no_block}
 use Rattle.al_history.specs.View.{latest}
 use Rattle.al_history.specs.Cause.{cause_of}
 use Rattle.al_history.specs.Tail.{owed, Follows}
-use Rattle.al_history.specs.Rules.{ActRule, Creates, Inserts, Selects, Alters, Answers, looked_at}
+use Rattle.std.proofs.Common.{inl}
+use Rattle.al_history.specs.Rules.{starts, looks, ActRule, Creates, Inserts, Selects, Alters, Answers, looked_at}
 use Rattle.al_history.specs.Alone.{UsesOwn}
 use Rattle.al_history.specs.Legal.{MayCome, Legal}
 
@@ -33,11 +34,11 @@ pub may_give : {scripts : Scripts} {past : Past} {s block : ℕ} → option_map 
 may_give of_session not_closed idle follows = record { rule = record { of_session = of_session; not_closed = not_closed; idle = idle }; follows = follows; alone = tt }
 
 -- a Start of READ COMMITTED
-pub may_start : {scripts : Scripts} {past : Past} {s : ℕ} → IsSome (in_hand scripts past s) → xact_of past s ≡ None → Follows (owed scripts past) (Start s levels.ReadCommitted) → MayCome scripts past (Start s levels.ReadCommitted)
+pub may_start : {scripts : Scripts} {past : Past} {s : ℕ} → option_map (starts (block_state past s)) (in_hand scripts past s) ≡ Some true → xact_of past s ≡ None → Follows (owed scripts past) (Start s levels.ReadCommitted) → MayCome scripts past (Start s levels.ReadCommitted)
 may_start statement none_open follows = record { rule = record { statement = statement; none_open = none_open; read_committed = refl }; follows = follows; alone = tt }
 
 -- a Look
-pub may_look : {scripts : Scripts} {past : Past} {x : ℕ} → xact_of past (session_of past x) ≡ Some x → IsSome (in_hand scripts past (session_of past x)) → look_of past (session_of past x) ≡ None → cause_of scripts past (session_of past x) ≡ None → Follows (owed scripts past) (Look x) → MayCome scripts past (Look x)
+pub may_look : {scripts : Scripts} {past : Past} {x : ℕ} → xact_of past (session_of past x) ≡ Some x → option_map looks (in_hand scripts past (session_of past x)) ≡ Some true → look_of past (session_of past x) ≡ None → cause_of scripts past (session_of past x) ≡ None → Follows (owed scripts past) (Look x) → MayCome scripts past (Look x)
 may_look open_xact statement first not_refused follows = record { rule = record { open_xact = open_xact; statement = statement; first = first; not_refused = not_refused }; follows = follows; alone = λ table used. tt }
 
 -- what a statement does
@@ -61,20 +62,25 @@ pub may_alter : {scripts : Scripts} {past : Past} {x table statement : ℕ} → 
 may_alter {scripts} {past} {x} act alters number follows = record { rule = record { act = act; alters = alters; number = number; none_rewritten = refl }; follows = follows; alone = uses_own scripts past x (look_of past (session_of past x)) }
 
 -- a Done
-pub may_be_done : {scripts : Scripts} {past : Past} {s : ℕ} {reply : Reply} → Answers (in_hand scripts past s) (acts_of past s) reply → Follows (owed scripts past) (Done s reply) → MayCome scripts past (Done s reply)
+pub may_be_done : {scripts : Scripts} {past : Past} {s : ℕ} {reply : Reply} → Answers (in_hand scripts past s) (acts_of past s) (xact_of past s) (block_state past s) reply → Follows (owed scripts past) (Done s reply) → MayCome scripts past (Done s reply)
 may_be_done answers follows = record { rule = record { answers = answers }; follows = follows; alone = tt }
 
 -- a Refuse
 pub may_refuse : {scripts : Scripts} {past : Past} {s : ℕ} {cause : Cause} → cause_of scripts past s ≡ Some cause → Follows (owed scripts past) (Refuse s cause) → MayCome scripts past (Refuse s cause)
 may_refuse first_true follows = record { rule = record { first_true = first_true }; follows = follows; alone = tt }
 
+implicit_is_open : (state : BlockState) (o : Option ℕ) (x : ℕ) → if_no_block state o ≡ Some x → o ≡ Some x
+implicit_is_open NoBlock o x e = e
+implicit_is_open OpenBlock o x e = absurd cc
+implicit_is_open (FailedBlock refuse) o x e = absurd cc
+
 -- a Commit
 pub may_commit : {scripts : Scripts} {past : Past} {x : ℕ} → implicit_of past (session_of past x) ≡ Some x → IsSome (hand past (session_of past x)) → in_hand scripts past (session_of past x) ≡ None → refused past (session_of past x) ≡ false → Follows (owed scripts past) (Commit x) → MayCome scripts past (Commit x)
-may_commit open_xact in_step none_left none_refused follows = record { rule = record { open_xact = open_xact; in_step = in_step; none_left = none_left; none_refused = none_refused }; follows = follows; alone = tt }
+may_commit {scripts} {past} {x} implicit in_step none_left none_refused follows = record { rule = record { open_xact = implicit_is_open (block_state past (session_of past x)) (xact_of past (session_of past x)) x implicit; in_step = in_step; none_refused = none_refused; ends = inl (none_left, implicit) }; follows = follows; alone = tt }
 
 -- an Abort
 pub may_abort : {scripts : Scripts} {past : Past} {x : ℕ} → xact_of past (session_of past x) ≡ Some x → (refused past (session_of past x) ≡ true) ⊎ (hand past (session_of past x) ≡ None) → Follows (owed scripts past) (Abort x) → MayCome scripts past (Abort x)
-may_abort open_xact refused_or_idle follows = record { rule = record { open_xact = open_xact; refused_or_idle = refused_or_idle }; follows = follows; alone = tt }
+may_abort open_xact refused_or_idle follows = record { rule = record { open_xact = open_xact; refused_or_idle = inl refused_or_idle }; follows = follows; alone = tt }
 
 -- a Cancel
 pub may_cancel : {scripts : Scripts} {past : Past} {s : ℕ} → IsSome (hand past s) → Follows (owed scripts past) (Cancel s) → MayCome scripts past (Cancel s)

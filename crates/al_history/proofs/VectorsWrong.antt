@@ -1,6 +1,6 @@
 -- Journals that aren't legal, each a small change of a right one.
 use Rattle.std.specs.Prelude.{◌≡◌, ℕ, List, [], ◌∷◌, ◌++◌, ◌<◌, slice_index}
-use Rattle.std.proofs.Common.{arith, ap}
+use Rattle.std.proofs.Common.{inl, inr, arith, ap}
 use Rattle.al_values.specs.declared.scalar.Value.TheVariants as values
 use Rattle.al_history.specs.declared.entry.Level.TheVariants as levels
 use Rattle.al_history.specs.declared.entry.Tag.TheVariants as tags
@@ -39,7 +39,7 @@ read_dropped l = l.0.rule.answers
 
 -- a transaction commits whose statement isn't done
 done_dropped : IsLegal scripts (acted_create ++ Commit 1 ∷ []) → ⊥
-done_dropped l = cc l.0.rule.none_left
+done_dropped l = elim l.0.rule.ends [ inl last ↦ cc last.0 | inr commit ↦ cc commit ]
 
 -- a step ends whose transaction is open
 commit_dropped : IsLegal scripts (done_create ++ End 0 ∷ []) → ⊥
@@ -103,7 +103,7 @@ end_before_commit l = cc l.1.0.follows
 
 -- a transaction commits between the statements of its block
 commit_between : IsLegal (pair insert) (done_first ++ Commit 1 ∷ []) → ⊥
-commit_between l = cc l.0.rule.none_left
+commit_between l = elim l.0.rule.ends [ inl last ↦ cc last.0 | inr commit ↦ cc commit ]
 
 -- a session is closed before its step ends
 close_before_end : IsLegal scripts (given_create ++ Close 0 ∷ []) → ⊥

@@ -10,12 +10,15 @@ use Rattle.al_history.specs.declared.statement.Statement.TheVariants as statemen
 use Rattle.al_history.specs.declared.statement.Scripts.{Scripts}
 use Rattle.al_history.specs.Past.{Past}
 use Rattle.al_history.specs.Database.{Table, Database, same_name, named}
-use Rattle.al_history.specs.Hand.{in_hand, xact_of, look_of, acts_of}
+use Rattle.al_history.specs.Hand.{in_hand, xact_of, look_of, acts_of, BlockState, FailedBlock, block_state}
 use Rattle.al_history.specs.Change.{Alteration, alteration}
 use Rattle.al_history.specs.View.{latest}
 
 -- the table that the statement uses, where it uses one that has to be there
 abbrev pub used_name : Statement → Option (List ℕ)
+used_name statements.Begin = None
+used_name statements.Commit = None
+used_name statements.Rollback = None
 used_name (statements.CreateTable name columns) = None
 used_name (statements.Insert name values) = Some name
 used_name (statements.Select name) = Some name
@@ -60,6 +63,9 @@ alter_cause column (Some t) = refusal (alteration column t)
 -- of these has acted, nothing is left to refuse.
 abbrev pub look_cause : Statement → List ℕ → Database → Database → Option Cause
 look_cause statement (act ∷ acts) now looked = None
+look_cause statements.Begin [] now looked = None
+look_cause statements.Commit [] now looked = None
+look_cause statements.Rollback [] now looked = None
 look_cause (statements.CreateTable name columns) [] now looked = create_cause name columns now
 look_cause (statements.Insert name values) [] now looked = count_cause (length values) (named looked name)
 look_cause (statements.Select name) [] now looked = None
@@ -78,9 +84,18 @@ abbrev pub first_of : Option Cause → Option Cause → Option Cause
 first_of None cause = cause
 first_of (Some first) cause = Some first
 
--- the first cause that is true of the statement in hand of an open transaction
+-- in a failed block every statement is refused but the two that end it
+abbrev pub block_cause : BlockState → Statement → Option Cause
+block_cause (FailedBlock refuse) statements.Commit = None
+block_cause (FailedBlock refuse) statements.Rollback = None
+block_cause (FailedBlock refuse) statement = Some (causes.BlockFailed refuse)
+block_cause state statement = None
+
+-- the first cause that is true of the statement in hand: that of the block first, then those of a statement with an open
+-- transaction
 abbrev pub judged_cause : Scripts → Past → ℕ → Option Cause
-judged_cause scripts past s = option_and_then (λ x. option_and_then (λ statement. cause_at scripts past x statement (acts_of past s) (look_of past s)) (in_hand scripts past s)) (xact_of past s)
+judged_cause scripts past s =
+    option_and_then (λ statement. first_of (block_cause (block_state past s) statement) (option_and_then (λ x. cause_at scripts past x statement (acts_of past s) (look_of past s)) (xact_of past s))) (in_hand scripts past s)
 
 -- the cause for which the statement in hand has to be refused
 abbrev pub cause_of : Scripts → Past → ℕ → Option Cause

@@ -1,6 +1,9 @@
 -- What a session is doing: its step and its statement in hand, its transaction, its place, and what it has done (3.4).
 use Rattle.std.specs.Prelude.{ℕ, List, [], ◌∷◌, ◌++◌, ◌+◌, ◌==◌, Bool, true, false, cond, length, Option, Some, None, slice_get, option_and_then}
-use Rattle.al_history.specs.declared.entry.Entry.TheVariants.{Give, Start, Look, Make, Add, Read, Alter, Done, Refuse, Commit, Abort, Cancel, End, Close}
+use Rattle.al_history.specs.declared.entry.Entry.TheVariants.{Give, Start, Look, Make, Add, Read, Alter, Done, Refuse, Commit, Abort, End, Close}
+use Rattle.al_history.specs.declared.entry.Reply.{Reply}
+use Rattle.al_history.specs.declared.entry.Reply.TheVariants as replies
+use Rattle.al_history.specs.declared.entry.Tag.TheVariants as tags
 use Rattle.al_history.specs.declared.statement.Statement.{Statement}
 use Rattle.al_history.specs.declared.statement.ScriptBlock.{ScriptBlock}
 use Rattle.al_history.specs.declared.statement.Scripts.{Scripts}
@@ -76,15 +79,34 @@ closed [] s = false
 closed (Close r ∷ past) s = cond (r == s) true (closed past s)
 closed (e ∷ past) s = closed past s
 
--- A transaction block is none, open, or failed by a kept Refuse. No statement so far opens one, so it is none: a step's
--- transaction is implicit and ends with it.
+-- A transaction block is none, open, or failed by a kept Refuse (3.4, and BEGIN, COMMIT, ROLLBACK in Part VI).
 pub data BlockState : Type 0 where
   NoBlock : BlockState
   OpenBlock : BlockState
   FailedBlock : ℕ → BlockState
 
+-- BEGIN opens a block, where none is
+abbrev pub opened : BlockState → BlockState
+opened NoBlock = OpenBlock
+opened state = state
+
+-- COMMIT and ROLLBACK end it
+abbrev pub block_after : Reply → BlockState → BlockState
+block_after (replies.Tag tags.Begin count) state = opened state
+block_after (replies.Tag tags.Commit count) state = NoBlock
+block_after (replies.Tag tags.Rollback count) state = NoBlock
+block_after reply state = state
+
+-- a refusal at this place fails an open block
+abbrev pub failed_at : ℕ → BlockState → BlockState
+failed_at place OpenBlock = FailedBlock place
+failed_at place state = state
+
 abbrev pub block_state : Past → ℕ → BlockState
-block_state past s = NoBlock
+block_state [] s = NoBlock
+block_state (Done r reply ∷ past) s = cond (r == s) (block_after reply (block_state past s)) (block_state past s)
+block_state (Refuse r cause ∷ past) s = cond (r == s) (failed_at (length past) (block_state past s)) (block_state past s)
+block_state (e ∷ past) s = block_state past s
 
 abbrev pub if_no_block : BlockState → Option ℕ → Option ℕ
 if_no_block NoBlock x = x

@@ -1,8 +1,9 @@
 -- When an entry may stand after a past. Each rule is a record of what it asks.
-use Rattle.std.specs.Prelude.{◌≡◌, ℕ, List, [], ◌∷◌, true, false, length, Option, Some, None, IsSome, slice_get, option_map, ◌⊎◌, ◌<◌}
+use Rattle.std.specs.Prelude.{◌≡◌, ℕ, List, [], ◌∷◌, Bool, true, false, length, Option, Some, None, IsSome, slice_get, option_map, ◌⊎◌, ◌<◌}
 use Rattle.al_values.specs.declared.scalar.Value.{Value}
 use Rattle.al_history.specs.declared.entry.Level.{Level}
 use Rattle.al_history.specs.declared.entry.Level.TheVariants as levels
+use Rattle.al_history.specs.declared.entry.Tag.{Tag}
 use Rattle.al_history.specs.declared.entry.Tag.TheVariants as tags
 use Rattle.al_history.specs.declared.entry.Reply.{Reply}
 use Rattle.al_history.specs.declared.entry.Reply.TheVariants as replies
@@ -17,7 +18,7 @@ use Rattle.al_history.specs.declared.statement.Statement.TheVariants as statemen
 use Rattle.al_history.specs.declared.statement.Scripts.{Scripts}
 use Rattle.al_history.specs.Past.{Past}
 use Rattle.al_history.specs.Database.{Table, Database, named}
-use Rattle.al_history.specs.Hand.{hand, dones, refused, in_hand, xact_of, implicit_of, session_of, look_of, acts_of, closed}
+use Rattle.al_history.specs.Hand.{hand, dones, refused, in_hand, xact_of, implicit_of, session_of, look_of, acts_of, closed, BlockState, FailedBlock, block_state}
 use Rattle.al_history.specs.Query.{column_names, answer}
 use Rattle.al_history.specs.Change.{shape_of, filled, alteration, altered, Passes}
 use Rattle.al_history.specs.View.{latest}
@@ -29,16 +30,30 @@ pub record GiveRule (scripts : Scripts) (past : Past) (s block : ℕ) : Type 0 w
   pub not_closed : closed past s ≡ false
   pub idle : hand past s ≡ None
 
--- a transaction begins for a statement in hand, where none is open, READ COMMITTED
+-- whether a statement needs a transaction: in a failed block none does, and COMMIT and ROLLBACK need none
+abbrev pub starts : BlockState → Statement → Bool
+starts (FailedBlock refuse) statement = false
+starts state statements.Commit = false
+starts state statements.Rollback = false
+starts state statement = true
+
+-- a transaction begins for a statement in hand that needs one, where none is open, READ COMMITTED
 pub record StartRule (scripts : Scripts) (past : Past) (s : ℕ) (level : Level) : Type 0 where
-  pub statement : IsSome (in_hand scripts past s)
+  pub statement : option_map (starts (block_state past s)) (in_hand scripts past s) ≡ Some true
   pub none_open : xact_of past s ≡ None
   pub read_committed : level ≡ levels.ReadCommitted
+
+-- whether a statement has a place: BEGIN, COMMIT and ROLLBACK have none
+abbrev pub looks : Statement → Bool
+looks statements.Begin = false
+looks statements.Commit = false
+looks statements.Rollback = false
+looks statement = true
 
 -- the statement in hand of an open transaction gets its place, once, where the table that it uses is there
 pub record LookRule (scripts : Scripts) (past : Past) (x : ℕ) : Type 0 where
   pub open_xact : xact_of past (session_of past x) ≡ Some x
-  pub statement : IsSome (in_hand scripts past (session_of past x))
+  pub statement : option_map looks (in_hand scripts past (session_of past x)) ≡ Some true
   pub first : look_of past (session_of past x) ≡ None
   pub not_refused : cause_of scripts past (session_of past x) ≡ None
 
@@ -106,32 +121,41 @@ pub record AlterRule (scripts : Scripts) (past : Past) (x table statement : ℕ)
   pub number : statement ≡ dones past (session_of past x)
   pub none_rewritten : rewritten ≡ []
 
--- a statement is done once it has acted, with its tag and the count of its rows, or with the place of its Read
-abbrev pub Answers : Option Statement → List ℕ → Reply → Type 0
-Answers (Some (statements.CreateTable name columns)) (act ∷ []) reply = reply ≡ replies.Tag tags.CreateTable 0
-Answers (Some (statements.Insert name written)) (act ∷ []) reply = reply ≡ replies.Tag tags.Insert 1
-Answers (Some (statements.Select name)) (act ∷ []) reply = reply ≡ replies.Rows act
-Answers (Some (statements.AddColumn name column)) (act ∷ []) reply = reply ≡ replies.Tag tags.AlterTable 0
-Answers statement acts reply = ⊥
+-- COMMIT of a failed block rolls back
+abbrev pub commit_tag : BlockState → Tag
+commit_tag (FailedBlock refuse) = tags.Rollback
+commit_tag state = tags.Commit
+
+-- A statement is done once it has acted, with its tag and the count of its rows, or with the place of its Read. BEGIN is
+-- done where a transaction is open, COMMIT and ROLLBACK where none is any more.
+abbrev pub Answers : Option Statement → List ℕ → Option ℕ → BlockState → Reply → Type 0
+Answers (Some statements.Begin) [] (Some x) state reply = reply ≡ replies.Tag tags.Begin 0
+Answers (Some statements.Commit) [] None state reply = reply ≡ replies.Tag (commit_tag state) 0
+Answers (Some statements.Rollback) [] None state reply = reply ≡ replies.Tag tags.Rollback 0
+Answers (Some (statements.CreateTable name columns)) (act ∷ []) x state reply = reply ≡ replies.Tag tags.CreateTable 0
+Answers (Some (statements.Insert name written)) (act ∷ []) x state reply = reply ≡ replies.Tag tags.Insert 1
+Answers (Some (statements.Select name)) (act ∷ []) x state reply = reply ≡ replies.Rows act
+Answers (Some (statements.AddColumn name column)) (act ∷ []) x state reply = reply ≡ replies.Tag tags.AlterTable 0
+Answers statement acts x state reply = ⊥
 
 pub record DoneRule (scripts : Scripts) (past : Past) (s : ℕ) (reply : Reply) : Type 0 where
-  pub answers : Answers (in_hand scripts past s) (acts_of past s) reply
+  pub answers : Answers (in_hand scripts past s) (acts_of past s) (xact_of past s) (block_state past s) reply
 
 -- a statement is refused for the first cause that is true
 pub record RefuseRule (scripts : Scripts) (past : Past) (s : ℕ) (cause : Cause) : Type 0 where
   pub first_true : cause_of scripts past s ≡ Some cause
 
--- an implicit transaction commits with its step, once each statement is done
+-- an implicit transaction commits with its step, once each statement is done; COMMIT commits the open one
 pub record CommitRule (scripts : Scripts) (past : Past) (x : ℕ) : Type 0 where
-  pub open_xact : implicit_of past (session_of past x) ≡ Some x
+  pub open_xact : xact_of past (session_of past x) ≡ Some x
   pub in_step : IsSome (hand past (session_of past x))
-  pub none_left : in_hand scripts past (session_of past x) ≡ None
   pub none_refused : refused past (session_of past x) ≡ false
+  pub ends : ((in_hand scripts past (session_of past x) ≡ None) × (implicit_of past (session_of past x) ≡ Some x)) ⊎ (in_hand scripts past (session_of past x) ≡ Some statements.Commit)
 
--- a transaction aborts after a refusal, or before its idle session is closed
+-- a transaction aborts after a refusal, by ROLLBACK, or before its idle session is closed
 pub record AbortRule (scripts : Scripts) (past : Past) (x : ℕ) : Type 0 where
   pub open_xact : xact_of past (session_of past x) ≡ Some x
-  pub refused_or_idle : (refused past (session_of past x) ≡ true) ⊎ (hand past (session_of past x) ≡ None)
+  pub refused_or_idle : ((refused past (session_of past x) ≡ true) ⊎ (hand past (session_of past x) ≡ None)) ⊎ (in_hand scripts past (session_of past x) ≡ Some statements.Rollback)
 
 -- a step in hand is cancelled
 pub record CancelRule (scripts : Scripts) (past : Past) (s : ℕ) : Type 0 where

@@ -13,6 +13,12 @@ pub enum Level {
 /// A reply that is a command tag.
 #[derive(Clone, Copy, Debug, PartialEq, Eq)]
 pub enum Tag {
+    /// `BEGIN`
+    Begin,
+    /// `COMMIT`
+    Commit,
+    /// `ROLLBACK`
+    Rollback,
     /// `CREATE TABLE`
     CreateTable,
     /// `ALTER TABLE`
@@ -62,6 +68,11 @@ pub enum Cause {
         want: u32,
         /// How many values are given.
         got: u32,
+    },
+    /// 25P02: the transaction block has failed.
+    BlockFailed {
+        /// The place of the Refuse that failed it.
+        refuse: u32,
     },
     /// 57014: the step was cancelled.
     Cancelled {

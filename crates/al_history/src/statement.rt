@@ -23,6 +23,12 @@ impl Copied for Column {
 /// A statement.
 #[derive(Debug, Drop)]
 pub enum Statement {
+    /// BEGIN.
+    Begin,
+    /// COMMIT.
+    Commit,
+    /// ROLLBACK.
+    Rollback,
     /// CREATE TABLE, with the names of the columns.
     CreateTable {
         /// The new table's name.
