@@ -17,7 +17,10 @@ use Rattle.al_history.specs.declared.spec.Spec.{Spec}
 use Rattle.al_history.specs.declared.statement.ScriptBlock.{ScriptBlock}
 use Rattle.al_history.specs.declared.statement.Scripts.{Scripts}
 use Rattle.al_app.specs.FirstSteps.{Gives}
-use Rattle.al_app.specs.First.{Step, Parts, setup_block, step_block, is_step_part, is_step, EachWith, IsScript, IsFirst}
+use Rattle.al_app.specs.First.{Step, Parts, setup_block, step_block, is_step_part, is_step, EachWith, IsScript, IsFirst, IsWell}
+use Rattle.al_history.specs.declared.statement.Statement.{Statement}
+use Rattle.al_history.specs.declared.statement.Statement.TheVariants as statements
+use Rattle.al_history.specs.Rules.{has_place}
 use Rattle.al_engine.specs.Ran.{IsSingle}
 use Rattle.al_app.specs.FirstShape.{IsSetup, IsStep, IsStepAt, HasOne, IsFirstShape}
 use Rattle.al_app.specs.FirstReading.{first_of}
@@ -103,11 +106,20 @@ as_many R [] (y ∷ ys) h = absurd h
 as_many R (x ∷ xs) [] h = absurd h
 as_many R (x ∷ xs) (y ∷ ys) h = ap suc (as_many R xs ys h.1)
 
+well_plain : (one : Statement) → IsWell one → has_place one ≡ true
+well_plain statements.Begin well = absurd well
+well_plain statements.Commit well = absurd well
+well_plain statements.Rollback well = absurd well
+well_plain (statements.CreateTable table columns) well = refl
+well_plain (statements.Insert table values) well = refl
+well_plain (statements.Select table) well = refl
+well_plain (statements.AddColumn table added) well = refl
+
 one_each : (bs : List Block) (ss : List ScriptBlock) → EachWith IsScript bs ss → EachWith HasOne bs ss
 one_each [] [] h = tt
 one_each [] (s ∷ ss) h = absurd h
 one_each (b ∷ bs) [] h = absurd h
-one_each (b ∷ bs) (s ∷ ss) h = (record { session = ap (λ (x : ScriptBlock). x.session) h.0.2; one = h.0.0; alone = ap (λ (x : ScriptBlock). x.script) h.0.2 }, one_each bs ss h.1)
+one_each (b ∷ bs) (s ∷ ss) h = (record { session = ap (λ (x : ScriptBlock). x.session) h.0.2; one = h.0.0; alone = ap (λ (x : ScriptBlock). x.script) h.0.2; plain = well_plain h.0.0 h.0.1.is_well }, one_each bs ss h.1)
 
 -- each block is of the control session or of the one session
 abbrev IsKnown : Block → Type 0
@@ -125,7 +137,7 @@ all_single : (bs : List Block) (ss : List ScriptBlock) → EachWith HasOne bs ss
 all_single [] [] h known = tt
 all_single [] (s ∷ ss) h known = absurd h
 all_single (b ∷ bs) [] h known = absurd h
-all_single (b ∷ bs) (s ∷ ss) h known = (record { known = omega (arith, h.0.session, known.0); has_one = rw h.0.alone refl; has_no_more = rw h.0.alone refl }, all_single bs ss h.1 known.1)
+all_single (b ∷ bs) (s ∷ ss) h known = (record { known = omega (arith, h.0.session, known.0); has_one = rw h.0.alone (ap Some h.0.plain); has_no_more = rw h.0.alone refl }, all_single bs ss h.1 known.1)
 
 shape : (bytes : List ℕ) (spec : Spec) (scripts : Scripts) → IsFirst bytes spec scripts → IsFirstShape spec scripts
 shape bytes spec scripts h =

@@ -354,6 +354,9 @@ alter_again table added end fits is =
 
 one_again : (one : Statement) (end : List Lexeme) → IsWell one → IsEnd end → one_at (statement one ++ end) ≡ Some (one, end)
 unfolding one_at starts
+one_again statements.Begin end fits is = absurd fits
+one_again statements.Commit end fits is = absurd fits
+one_again statements.Rollback end fits is = absurd fits
 one_again (statements.CreateTable table columns) end fits is = create_again table columns end fits
 one_again (statements.Insert table values) end fits is = insert_again table values end fits
 one_again (statements.Select table) end fits is = select_again table end fits

@@ -78,6 +78,7 @@ statement (statements.Select table) =
 statement (statements.AddColumn table added) =
     lexemes.Word (codes "alter") ∷ lexemes.Word (codes "table") ∷ lexemes.Word table ∷
     lexemes.Word (codes "add") ∷ lexemes.Word (codes "column") ∷ lexemes.Word added.name ∷ lexemes.Word (codes "integer") ∷ default added.default
+statement other = []
 
 -- its names are names, and its lists aren't too long
 abbrev pub IsWell : Statement → Type 0
@@ -85,6 +86,7 @@ IsWell (statements.CreateTable table columns) = IsName table × AllByRecursion I
 IsWell (statements.Insert table values) = IsName table × IsOneToTen values
 IsWell (statements.Select table) = IsName table
 IsWell (statements.AddColumn table added) = IsName table × IsName added.name
+IsWell other = ⊥
 
 -- [ ";" ]
 abbrev pub IsEnd : List Lexeme → Type 0

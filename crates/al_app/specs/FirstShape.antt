@@ -1,5 +1,5 @@
 -- What holds of each spec file of the first form.
-use Rattle.std.specs.Prelude.{◌≡◌, ℕ, ◌+◌, ◌<◌, ◌≤◌, List, [], ◌∷◌, ◌++◌, length, Some, slice_get}
+use Rattle.std.specs.Prelude.{◌≡◌, ℕ, ◌+◌, ◌<◌, ◌≤◌, List, [], ◌∷◌, ◌++◌, length, true, Some, slice_get}
 use Rattle.std.specs.List.{AllByRecursion}
 use Rattle.al_history.specs.declared.spec.Part.TheVariants as parts
 use Rattle.al_history.specs.declared.spec.Block.{Block}
@@ -7,6 +7,7 @@ use Rattle.al_history.specs.declared.spec.Spec.{Spec}
 use Rattle.al_history.specs.declared.statement.Statement.{Statement}
 use Rattle.al_history.specs.declared.statement.ScriptBlock.{ScriptBlock}
 use Rattle.al_history.specs.declared.statement.Scripts.{Scripts}
+use Rattle.al_history.specs.Rules.{has_place}
 use Rattle.al_engine.specs.Ran.{AreSingle}
 use Rattle.al_app.specs.First.{EachWith}
 
@@ -26,11 +27,12 @@ pub record IsStepAt (blocks : List Block) (number : ℕ) : Type 0 where
   pub there : slice_get blocks number ≡ Some block
   pub step : IsStep block
 
--- a block's script has one statement, for the block's session
+-- a block's script has one statement, for the block's session, which isn't BEGIN, COMMIT or ROLLBACK
 pub record HasOne (block : Block) (script : ScriptBlock) : Type 0 where
   pub session : script.session ≡ block.session
   pub one : Statement
   pub alone : script.script ≡ one ∷ []
+  pub plain : has_place one ≡ true
 
 pub record IsFirstShape (spec : Spec) (scripts : Scripts) : Type 0 where
   pub sessions : scripts.sessions ≡ 2

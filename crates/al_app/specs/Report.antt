@@ -35,10 +35,14 @@ cause_text (causes.NoTable name) = concat (codes "42P01: table \"" ∷ name ∷ 
 cause_text (causes.TwiceTable name) = concat (codes "42P07: table \"" ∷ name ∷ codes "\" already exists" ∷ [])
 cause_text (causes.TwiceColumn name) = concat (codes "42701: column \"" ∷ name ∷ codes "\" already exists" ∷ [])
 cause_text (causes.Count want got) = many_values_text want got
+cause_text (causes.BlockFailed refuse) = codes "25P02: transaction block has failed"
 cause_text (causes.Cancelled entry) = codes "57014: cancelled"
 
 -- a command tag, an INSERT's with its count
 abbrev pub tag_text : Tag → ℕ → List ℕ
+tag_text tags.Begin count = codes "BEGIN"
+tag_text tags.Commit count = codes "COMMIT"
+tag_text tags.Rollback count = codes "ROLLBACK"
 tag_text tags.CreateTable count = codes "CREATE TABLE"
 tag_text tags.AlterTable count = codes "ALTER TABLE"
 tag_text tags.Insert count = codes "INSERT 0 " ++ decimal count

@@ -28,6 +28,7 @@ fn push_cause(text: &mut String, cause: &Cause) -> Result<(), NoMemory>
         Cause::TwiceTable { name } => write!(text, "42P07: table \"{name}\" already exists")?,
         Cause::TwiceColumn { name } => write!(text, "42701: column \"{name}\" already exists")?,
         Cause::Count { want, got } => push_many_values(text, *want, *got)?,
+        Cause::BlockFailed { .. } => write!(text, "25P02: transaction block has failed")?,
         Cause::Cancelled { .. } => write!(text, "57014: cancelled")?,
     }
     Ok(())
@@ -45,6 +46,9 @@ fn push_tag(text: &mut String, tag: Tag, count: u32) -> Result<(), NoMemory>
     ensures ok { OnOk result (string_bytes text.new ≡ string_bytes text.old ++ tag_text tag count) }
 {
     match tag {
+        Tag::Begin => text.push_str("BEGIN")?,
+        Tag::Commit => text.push_str("COMMIT")?,
+        Tag::Rollback => text.push_str("ROLLBACK")?,
         Tag::CreateTable => text.push_str("CREATE TABLE")?,
         Tag::AlterTable => text.push_str("ALTER TABLE")?,
         Tag::Insert => write!(text, "INSERT 0 {count}")?,

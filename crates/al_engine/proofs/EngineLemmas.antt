@@ -1,9 +1,8 @@
 -- What the engine keeps through each of its calls, and what a turn of it did.
-use Rattle.std.proofs.Common.{◌≡◌, ℕ, suc, ◌+◌, ◌<◌, ◌≤◌, List, [], ◌∷◌, ◌++◌, length, reverse, refl, sym, ap, subst, cond, true, false, Bool, Option, Some, None, Result, Ok, Err, arith, ◌∙◌, slice_get, slice_set, option_map, replicate, IfOk, OnErr, inr, zero}
-use Rattle.std.specs.Prelude.{◌==◌, IsSome, is_some, get_or}
+use Rattle.std.proofs.Common.{◌≡◌, ℕ, suc, ◌+◌, ◌<◌, ◌≤◌, List, [], ◌∷◌, length, refl, sym, ap, subst, true, false, Bool, Option, Some, None, arith, ◌∙◌, slice_get, slice_set, option_map, replicate, inr, zero}
+use Rattle.std.specs.Prelude.{◌==◌, is_some, get_or}
 use Rattle.std.specs.List.{AllByRecursion}
 use Rattle.std.proofs.lemmas.Option.{slice_get_within, slice_get_read}
-use Rattle.al_values.specs.declared.cant.NoMemory.{NoMemory}
 use Rattle.al_history.specs.declared.entry.Cause.TheVariants as causes
 use Rattle.al_history.specs.declared.entry.Entry.TheVariants.{Give, Refuse, Cancel, End, Close}
 use Rattle.al_history.specs.declared.statement.Statement.{Statement}
@@ -11,24 +10,24 @@ use Rattle.al_history.specs.declared.statement.ScriptBlock.{ScriptBlock}
 use Rattle.al_history.specs.declared.statement.Scripts.{Scripts}
 use Rattle.al_history.specs.Kept.{Kept}
 use Rattle.al_history.specs.Past.{Past, past_of}
-use Rattle.al_history.specs.Hand.{hand, closed, refused, statement_of}
-use Rattle.al_history.specs.Legal.{MayCome, Legal}
-use Rattle.al_history.specs.Whole.{IsLeast, Driven}
+use Rattle.al_history.specs.Hand.{block_state, hand, closed, statement_of}
+use Rattle.al_history.specs.Rules.{has_place}
+use Rattle.al_history.specs.Legal.{MayCome}
 use Rattle.al_history.proofs.Pasts.{if_same}
 use Rattle.al_engine.specs.declared.sessions.Session.{Session}
 use Rattle.al_engine.specs.declared.steps.Ended.{Ended}
 use Rattle.al_engine.specs.declared.stored.StoredTable.{StoredTable}
-use Rattle.al_engine.specs.Ran.{Ran, IsSingle, AreSingle, WentOn, cancelled}
-use Rattle.al_engine.specs.Between.{IsFresh, IsBetween}
-use Rattle.al_engine.specs.Sessions.{idle_session, IsMirror, AreMirrors, light_of, light}
-use Rattle.al_engine.specs.Stored.{tables_of, AreSound}
+use Rattle.al_engine.specs.Ran.{IsSingle, AreSingle, WentOn}
+use Rattle.al_engine.specs.Between.{IsFresh}
+use Rattle.al_engine.specs.Sessions.{idle_session, light_of}
+use Rattle.al_engine.specs.Stored.{tables_of}
 use Rattle.al_engine.specs.After.{IsAfter, IsBefore, is_refused}
 use Rattle.al_engine.specs.Kept.{IsKept}
-use Rattle.al_engine.proofs.Phases.{fresh_still, still_in_hand}
+use Rattle.al_engine.proofs.Phases.{still_in_hand, block_refused}
 use Rattle.al_engine.proofs.Step.{turn_leads}
 use Rattle.al_engine.proofs.StoredLemmas.{sound_more}
 use Rattle.al_engine.proofs.SessionLemmas.{light_at, light_set, light_idle, mirrors_set, mirrors_at_first, length_set, past_end}
-use Rattle.al_engine.proofs.TurnLemmas.{Did, did}
+use Rattle.al_engine.proofs.TurnLemmas.{did}
 
 -- ---- the first moment
 
@@ -39,7 +38,7 @@ pub open_keeps : (scripts : Scripts) (journal : Kept) (sessions : List Session) 
 open_keeps scripts journal sessions none room idle single =
     let past : past_of journal ≡ [] = rw none refl in
     record {
-      between = rw past (record { legal = tt; xacts = λ s. refl; owed_is = refl; uncut = λ s. refl; committed_is = refl; fates = λ x le. refl; fresh = λ s block e. no_fresh scripts s block e });
+      between = rw past (record { legal = tt; xacts = λ s. refl; blocks = λ s. refl; owed_is = refl; uncut = λ s. refl; committed_is = refl; fates = λ x le. refl; fresh = λ s block e. no_fresh scripts s block e });
       sound = tt;
       count = rw idle (length_replicate scripts.sessions);
       mirrors = rw (past, idle) (mirrors_at_first scripts.sessions);
@@ -58,9 +57,9 @@ single_at sessions (c ∷ blocks) zero b all is = let e : c ≡ b = cc in subst 
 single_at sessions (c ∷ blocks) (suc block) b all is = single_at sessions blocks block b all.1 is
 
 -- a block that is given has its one statement
-has_its_one : (scripts : Scripts) (s block : ℕ) → AreSingle scripts → option_map (λ (b : ScriptBlock). b.session) (slice_get scripts.blocks block) ≡ Some s → IsSome (statement_of scripts (Some block) 0) × (statement_of scripts (Some block) 1 ≡ None)
+has_its_one : (scripts : Scripts) (s block : ℕ) → AreSingle scripts → option_map (λ (b : ScriptBlock). b.session) (slice_get scripts.blocks block) ≡ Some s → (option_map has_place (statement_of scripts (Some block) 0) ≡ Some true) × (statement_of scripts (Some block) 1 ≡ None)
 has_its_one scripts s block single of_session = by_block (slice_get scripts.blocks block) refl of_session where
-  by_block : (o : Option ScriptBlock) → slice_get scripts.blocks block ≡ o → option_map (λ (b : ScriptBlock). b.session) o ≡ Some s → IsSome (statement_of scripts (Some block) 0) × (statement_of scripts (Some block) 1 ≡ None)
+  by_block : (o : Option ScriptBlock) → slice_get scripts.blocks block ≡ o → option_map (λ (b : ScriptBlock). b.session) o ≡ Some s → (option_map has_place (statement_of scripts (Some block) 0) ≡ Some true) × (statement_of scripts (Some block) 1 ≡ None)
   by_block None is e = absurd cc
   by_block (Some b) is e = let one = single_at scripts.sessions scripts.blocks block b single is in (rw is one.has_one, rw is one.has_no_more)
 
@@ -83,6 +82,7 @@ give_keeps scripts old new sessions tables s block t kept there none of_session 
       between = rw is (record {
         legal = (gives, between.legal);
         xacts = between.xacts;
+        blocks = between.blocks;
         owed_is = refl;
         uncut = λ r. refl;
         committed_is = between.committed_is;
@@ -95,7 +95,7 @@ give_keeps scripts old new sessions tables s block t kept there none of_session 
       reserved = omega (arith, light_set sessions s t (record { hand = Some block; closed = false }) there, was, room, kept.reserved);
       single = kept.single;
     } where
-      by_session : (r b : ℕ) (test : Bool) → (s == r) ≡ test → hand (Give s block ∷ past_of old) r ≡ Some b → IsSome (statement_of scripts (Some block) 0) × (statement_of scripts (Some block) 1 ≡ None) → IsFresh scripts (Give s block ∷ past_of old) r b
+      by_session : (r b : ℕ) (test : Bool) → (s == r) ≡ test → hand (Give s block ∷ past_of old) r ≡ Some b → (option_map has_place (statement_of scripts (Some block) 0) ≡ Some true) × (statement_of scripts (Some block) 1 ≡ None) → IsFresh scripts (Give s block ∷ past_of old) r b
       by_session r b true own e one =
           let given : Some block ≡ Some b = rw own at e in
           let block_is : block ≡ b = cc in
@@ -107,19 +107,19 @@ give_keeps scripts old new sessions tables s block t kept there none of_session 
 -- ---- a turn
 
 -- a session with a step in hand: its statement is there, and its light entries have their places
-pub turn_may : (scripts : Scripts) (journal : Kept) (sessions : List Session) (tables : List StoredTable) (s block : ℕ) (t : Session) → IsKept scripts journal sessions tables → slice_get sessions s ≡ Some t → t.hand ≡ Some block → IsSome (statement_of scripts (Some block) 0) × (4 ≤ journal.room) × (hand (past_of journal) s ≡ Some block)
+pub turn_may : (scripts : Scripts) (journal : Kept) (sessions : List Session) (tables : List StoredTable) (s block : ℕ) (t : Session) → IsKept scripts journal sessions tables → slice_get sessions s ≡ Some t → t.hand ≡ Some block → (option_map has_place (statement_of scripts (Some block) 0) ≡ Some true) × (4 ≤ journal.room) × (hand (past_of journal) s ≡ Some block)
 turn_may scripts journal sessions tables s block t kept there busy =
     let in_hand_so : hand (past_of journal) s ≡ Some block = (kept.mirrors.each s t there).hand_is ∙ busy in
     let four : 4 ≤ light_of t = rw busy (omega arith) in
     ((kept.between.fresh s block in_hand_so).has_one, omega (arith, four, light_at sessions s t there, kept.reserved), in_hand_so)
 
-module _ (scripts : Scripts) (old new : Kept) (sessions : List Session) (tables after : List StoredTable) (s block : ℕ) (t : Session) (statement : Statement) (ended : Ended) (kept : IsKept scripts old sessions tables) (there : slice_get sessions s ≡ Some t) (busy : t.hand ≡ Some block) (is : statement_of scripts (Some block) 0 ≡ Some statement) (step : IsAfter ended s statement (past_of old) (past_of new) tables after) where
+module _ (scripts : Scripts) (old new : Kept) (sessions : List Session) (tables after : List StoredTable) (s block : ℕ) (t : Session) (statement : Statement) (ended : Ended) (kept : IsKept scripts old sessions tables) (there : slice_get sessions s ≡ Some t) (busy : t.hand ≡ Some block) (is : statement_of scripts (Some block) 0 ≡ Some statement) (plain : has_place statement ≡ true) (step : IsAfter ended s statement (past_of old) (past_of new) tables after) where
   in_hand_then : hand (past_of old) s ≡ Some block
   in_hand_then = (kept.mirrors.each s t there).hand_is ∙ busy
 
   pub turn_keeps : old.room ≤ new.room + 4 → IsKept scripts new (slice_set sessions s (record { hand = None; closed = t.closed })) after
   turn_keeps room =
-      let leads = turn_leads scripts (past_of old) s block (tables_of tables) kept.between statement in_hand_then is in
+      let leads = turn_leads scripts (past_of old) s block (tables_of tables) kept.between statement in_hand_then is plain in
       let done_so = did (past_of old) s statement (tables_of tables) in
       let of_old : light_of t ≡ light_of (record { hand = None; closed = t.closed }) + 4 = rw busy (omega arith) in
       record {
@@ -133,7 +133,7 @@ module _ (scripts : Scripts) (old new : Kept) (sessions : List Session) (tables 
 
   pub turn_went : WentOn (record { scripts = scripts; past = past_of old }) (record { scripts = scripts; past = past_of new }) s (length (past_of old)) (length (past_of new)) (is_refused ended)
   turn_went =
-      let leads = turn_leads scripts (past_of old) s block (tables_of tables) kept.between statement in_hand_then is in
+      let leads = turn_leads scripts (past_of old) s block (tables_of tables) kept.between statement in_hand_then is plain in
       let done_so = did (past_of old) s statement (tables_of tables) in
       rw (step.journal, step.ended_so) (record {
         scripts = refl;
@@ -179,7 +179,7 @@ cancel_keeps scripts old new sessions tables s block t kept there busy is room =
       alone = tt;
     } in
     let ends : MayCome scripts (Refuse s (causes.Cancelled (length (past_of old))) ∷ Cancel s ∷ past_of old) (End s) = record {
-      rule = record { in_step = rw in_hand_so refl; over = inr (rw same refl); none_implicit = between.xacts s };
+      rule = record { in_step = rw in_hand_so refl; over = inr (rw same refl); none_implicit = rw (block_refused (s == s) (suc (length (past_of old))) (block_state (past_of old) s) (between.blocks s), between.xacts s) refl };
       follows = rw (between.xacts s) refl;
       alone = tt;
     } in
@@ -188,6 +188,7 @@ cancel_keeps scripts old new sessions tables s block t kept there busy is room =
       between = rw is (record {
         legal = (ends, (refuses, (cancels, between.legal)));
         xacts = between.xacts;
+        blocks = λ r. block_refused (s == r) (suc (length (past_of old))) (block_state (past_of old) r) (between.blocks r);
         owed_is = refl;
         uncut = λ r. refl;
         committed_is = between.committed_is;
@@ -224,6 +225,7 @@ close_keeps scripts old new sessions tables s t kept there known idle open_so is
       between = rw is (record {
         legal = (comes, between.legal);
         xacts = between.xacts;
+        blocks = between.blocks;
         owed_is = refl;
         uncut = λ r. refl;
         committed_is = between.committed_is;

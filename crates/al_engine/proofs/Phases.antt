@@ -1,6 +1,6 @@
 -- How a turn goes on, from between two calls to between the next: what is known after each of its entries.
-use Rattle.std.proofs.Common.{◌≡◌, ℕ, suc, ◌<◌, ◌≤◌, List, [], ◌∷◌, ◌++◌, length, refl, sym, ap, cond, true, false, Bool, Option, Some, None, arith, subst, ◌∙◌, inl, inr}
-use Rattle.std.specs.Prelude.{◌==◌, ◌≢◌, ◌⊎◌, eqb, slice_get, option_map}
+use Rattle.std.proofs.Common.{◌≡◌, ℕ, ◌<◌, ◌≤◌, List, [], ◌∷◌, ◌++◌, length, refl, sym, ap, cond, true, false, Bool, Option, Some, None, arith, subst, ◌∙◌, inl, inr}
+use Rattle.std.specs.Prelude.{◌==◌, ◌≢◌, ◌⊎◌, eqb}
 use Rattle.std.proofs.lemmas.Bool.{ne_eqb}
 use Rattle.std.proofs.lemmas.Bool.Decides.{eqb_tells}
 use Rattle.al_history.specs.declared.entry.Entry.{Entry}
@@ -10,20 +10,19 @@ use Rattle.al_history.specs.declared.entry.Reply.{Reply}
 use Rattle.al_history.specs.declared.entry.Cause.{Cause}
 use Rattle.al_values.specs.declared.scalar.Value.{Value}
 use Rattle.al_history.specs.declared.statement.Column.{Column}
-use Rattle.al_history.specs.declared.statement.ScriptBlock.{ScriptBlock}
 use Rattle.al_history.specs.declared.statement.Statement.{Statement}
 use Rattle.al_history.specs.declared.statement.Statement.TheVariants as statements
 use Rattle.al_history.specs.declared.statement.Scripts.{Scripts}
 use Rattle.al_history.specs.Past.{Past}
 use Rattle.al_history.specs.Database.{Table, Database, named}
 use Rattle.al_history.specs.Fate.{fate, Open, is_that}
-use Rattle.al_history.specs.Hand.{hand, dones, refused, in_hand, statement_of, xact_of, session_of, look_of, acts_of, closed}
+use Rattle.al_history.specs.Hand.{BlockState, NoBlock, block_state, block_after, failed_at, implicit_of, hand, dones, refused, in_hand, statement_of, xact_of, session_of, look_of, acts_of}
 use Rattle.al_history.specs.View.{latest, committed}
-use Rattle.al_history.specs.Cause.{cause_of, cause_at, cancel_cause, name_cause}
+use Rattle.al_history.specs.Cause.{first_of, cause_of, cause_at, cancel_cause, name_cause}
 use Rattle.al_history.specs.Tail.{owed}
 use Rattle.al_history.specs.Query.{column_names, answer}
 use Rattle.al_history.specs.Change.{shape_of, filled, made, added, altered, alteration, Passes}
-use Rattle.al_history.specs.Rules.{Rule, ActRule, Answers}
+use Rattle.al_history.specs.Rules.{starts, has_place, Rule, ActRule, Answers}
 use Rattle.al_history.specs.Alone.{Alone}
 use Rattle.al_history.specs.Legal.{Legal, MayCome}
 use Rattle.al_history.specs.Whole.{Driven, InTurn, IsTurn, IsLeast}
@@ -52,6 +51,8 @@ pub record InStep (scripts : Scripts) (before past : Past) (s block x : ℕ) (st
   pub none_refused : refused past s ≡ false
   pub xact_is : xact_of past s ≡ Some x
   pub other_xacts : (r : ℕ) → (s == r) ≡ false → xact_of past r ≡ None
+  pub blocks : (r : ℕ) → block_state past r ≡ NoBlock
+  pub plain : has_place statement ≡ true
   pub session_is : session_of past x ≡ s
   pub look_is : look_of past s ≡ look
   pub acts_is : acts_of past s ≡ []
@@ -67,13 +68,23 @@ pub record InStep (scripts : Scripts) (before past : Past) (s block x : ℕ) (st
 least_by : (before past : Past) (s : ℕ) → ((r : ℕ) → hand past r ≡ hand before r) → IsLeast before s → IsLeast past s
 least_by before past s hands least = (rw (hands s) least.0, λ r lt. rw (hands r) (least.1 r lt))
 
-pub begins : (scripts : Scripts) (past : Past) (s block : ℕ) (statement : Statement) (db : Database) → IsBetween scripts past db → hand past s ≡ Some block → statement_of scripts (Some block) 0 ≡ Some statement → InStep scripts past (begun s past) s block (xact_next past) statement None db
-begins scripts past s block statement db between in_hand_so is =
+-- a statement that has a place needs a transaction
+plain_starts : (statement : Statement) → has_place statement ≡ true → starts NoBlock statement ≡ true
+plain_starts statements.Begin e = absurd cc
+plain_starts statements.Commit e = absurd cc
+plain_starts statements.Rollback e = absurd cc
+plain_starts (statements.CreateTable name columns) e = refl
+plain_starts (statements.Insert name values) e = refl
+plain_starts (statements.Select name) e = refl
+plain_starts (statements.AddColumn name column) e = refl
+
+pub begins : (scripts : Scripts) (past : Past) (s block : ℕ) (statement : Statement) (db : Database) → IsBetween scripts past db → hand past s ≡ Some block → statement_of scripts (Some block) 0 ≡ Some statement → has_place statement ≡ true → InStep scripts past (begun s past) s block (xact_next past) statement None db
+begins scripts past s block statement db between in_hand_so is plain =
     let same : (s == s) ≡ true = if_same s in
     let place : (length past == length past) ≡ true = if_same (length past) in
     let fresh = between.fresh s block in_hand_so in
     let starts : MayCome scripts past (Start s levels.ReadCommitted) = record {
-      rule = record { statement = rw (in_hand_so, fresh.dones_is, is) refl; none_open = between.xacts s; read_committed = refl };
+      rule = record { statement = rw (in_hand_so, fresh.dones_is, is, between.blocks s) (ap Some (plain_starts statement plain)); none_open = between.xacts s; read_committed = refl };
       follows = rw between.owed_is tt;
       alone = tt;
     } in
@@ -89,6 +100,8 @@ begins scripts past s block statement db between in_hand_so is =
       none_refused = fresh.none_refused;
       xact_is = rw same refl;
       other_xacts = λ r other. rw other (between.xacts r);
+      blocks = between.blocks;
+      plain = plain;
       session_is = rw place refl;
       look_is = fresh.look_is;
       acts_is = fresh.acts_is;
@@ -105,8 +118,11 @@ begins scripts past s block statement db between in_hand_so is =
 pub in_hand_in_step : (scripts : Scripts) (before past : Past) (s block x : ℕ) (statement : Statement) (look : Option Past) (db : Database) → InStep scripts before past s block x statement look db → in_hand scripts past s ≡ Some statement
 in_hand_in_step scripts before past s block x statement look db p = rw (p.hand_is, p.dones_is) p.statement_is
 
+first_none : (o : Option Cause) → first_of None o ≡ o
+first_none o = refl
+
 pub cause_in_step : (scripts : Scripts) (before past : Past) (s block x : ℕ) (statement : Statement) (look : Option Past) (db : Database) → InStep scripts before past s block x statement look db → cause_of scripts past s ≡ cause_at scripts past x statement [] look
-cause_in_step scripts before past s block x statement look db p = rw (p.uncut s, p.xact_is, p.hand_is, p.dones_is, p.statement_is, p.acts_is, p.look_is) refl
+cause_in_step scripts before past s block x statement look db p = rw (p.uncut s, p.hand_is, p.dones_is, p.statement_is, p.blocks s, p.xact_is, p.acts_is, p.look_is) (first_none (cause_at scripts past x statement [] look))
 
 pub looks : (scripts : Scripts) (before past : Past) (s block x : ℕ) (statement : Statement) (db : Database) → InStep scripts before past s block x statement None db → name_cause statement db ≡ None → InStep scripts before (Look x ∷ past) s block x statement (Some past) db
 looks scripts before past s block x statement db p known =
@@ -115,7 +131,7 @@ looks scripts before past s block x statement db p known =
     let comes : MayCome scripts past (Look x) = record {
       rule = record {
         open_xact = rw p.session_is p.xact_is;
-        statement = rw (p.session_is, in_hand_in_step scripts before past s block x statement None db p) refl;
+        statement = rw (p.session_is, in_hand_in_step scripts before past s block x statement None db p) (ap Some p.plain);
         first = rw p.session_is p.look_is;
         not_refused = rw p.session_is cause;
       };
@@ -137,6 +153,8 @@ looks scripts before past s block x statement db p known =
       none_refused = p.none_refused;
       xact_is = p.xact_is;
       other_xacts = p.other_xacts;
+      blocks = p.blocks;
+      plain = p.plain;
       session_is = p.session_is;
       look_is = rw (p.xact_is, same) refl;
       acts_is = p.acts_is;
@@ -162,6 +180,7 @@ pub record Acted (scripts : Scripts) (before past : Past) (s block x : ℕ) (sta
   pub none_refused : refused past s ≡ false
   pub xact_is : xact_of past s ≡ Some x
   pub other_xacts : (r : ℕ) → (s == r) ≡ false → xact_of past r ≡ None
+  pub blocks : (r : ℕ) → block_state past r ≡ NoBlock
   pub session_is : session_of past x ≡ s
   pub acts_is : acts_of past s ≡ acts
   pub owed_is : owed scripts past ≡ None
@@ -185,17 +204,28 @@ pub still_in_hand : (b : Bool) (h : Option ℕ) (block : ℕ) → cond b None h 
 still_in_hand true h block e = absurd cc
 still_in_hand false h block e = (refl, e)
 
+-- no block is open after a statement that opens none, and after a refusal outside one
+block_done : (b : Bool) (reply : Reply) (state : BlockState) → state ≡ NoBlock → block_after reply NoBlock ≡ NoBlock → cond b (block_after reply state) state ≡ NoBlock
+block_done true reply state is keeps = rw is keeps
+block_done false reply state is keeps = is
+
+pub block_refused : (b : Bool) (place : ℕ) (state : BlockState) → state ≡ NoBlock → cond b (failed_at place state) state ≡ NoBlock
+block_refused true place state is = rw is refl
+block_refused false place state is = is
+
 -- the turn of a statement that has acted ends with its Done, the Commit and the End
-pub ends : (scripts : Scripts) (before past : Past) (s block x : ℕ) (statement : Statement) (acts : List ℕ) (reply : Reply) (db old : Database) → IsBetween scripts before old → Acted scripts before past s block x statement acts db → Answers (Some statement) acts reply → IsBetween scripts (End s ∷ Commit x ∷ Done s reply ∷ past) db × (IsLeast before s → Driven scripts before → Driven scripts (End s ∷ Commit x ∷ Done s reply ∷ past))
-ends scripts before past s block x statement acts reply db old between p answers =
+pub ends : (scripts : Scripts) (before past : Past) (s block x : ℕ) (statement : Statement) (acts : List ℕ) (reply : Reply) (db old : Database) → IsBetween scripts before old → Acted scripts before past s block x statement acts db → Answers (Some statement) acts (Some x) NoBlock reply → block_after reply NoBlock ≡ NoBlock → IsBetween scripts (End s ∷ Commit x ∷ Done s reply ∷ past) db × (IsLeast before s → Driven scripts before → Driven scripts (End s ∷ Commit x ∷ Done s reply ∷ past))
+ends scripts before past s block x statement acts reply db old between p answers keeps =
     let same : (s == s) ≡ true = if_same s in
     let same_x : (x == x) ≡ true = if_same x in
     let dones_one : dones (Done s reply ∷ past) s ≡ 1 = rw (same, p.dones_is) refl in
     let none_left : in_hand scripts (Done s reply ∷ past) s ≡ None = rw (p.hand_is, dones_one) p.only in
-    let owes_commit : owed scripts (Done s reply ∷ past) ≡ Some (Commit x) = rw (none_left, p.xact_is) refl in
+    let none_blocked : block_state (Done s reply ∷ past) s ≡ NoBlock = rw (same, p.blocks s) keeps in
+    let implicit : implicit_of (Done s reply ∷ past) s ≡ Some x = rw (none_blocked, p.xact_is) refl in
+    let owes_commit : owed scripts (Done s reply ∷ past) ≡ Some (Commit x) = rw (none_left, implicit) refl in
     let closed_xact : xact_of (Commit x ∷ Done s reply ∷ past) s ≡ None = rw (p.xact_is, same_x) refl in
     let done_comes : MayCome scripts past (Done s reply) = record {
-      rule = record { answers = rw (p.hand_is, p.dones_is, p.statement_is, p.acts_is) answers };
+      rule = record { answers = rw (p.hand_is, p.dones_is, p.statement_is, p.acts_is, p.xact_is, p.blocks s) answers };
       follows = rw p.owed_is tt;
       alone = tt;
     } in
@@ -203,20 +233,21 @@ ends scripts before past s block x statement acts reply db old between p answers
       rule = record {
         open_xact = rw p.session_is p.xact_is;
         in_step = rw (p.session_is, p.hand_is) refl;
-        none_left = rw p.session_is none_left;
         none_refused = rw p.session_is p.none_refused;
+        ends = inl (rw p.session_is none_left, rw p.session_is implicit);
       };
       follows = rw owes_commit refl;
       alone = tt;
     } in
     let end_comes : MayCome scripts (Commit x ∷ Done s reply ∷ past) (End s) = record {
-      rule = record { in_step = rw p.hand_is refl; over = inl none_left; none_implicit = closed_xact };
-      follows = rw p.session_is refl;
+      rule = record { in_step = rw p.hand_is refl; over = inl none_left; none_implicit = rw (none_blocked, closed_xact) refl };
+      follows = rw (p.session_is, none_left) refl;
       alone = tt;
     } in (
       record {
         legal = (end_comes, (commit_comes, (done_comes, p.legal)));
         xacts = λ r. xact_after r (eqb_tells s r);
+      blocks = λ r. block_done (s == r) reply (block_state past r) (p.blocks r) keeps;
         owed_is = refl;
         uncut = λ r. refl;
         committed_is = committed_by_commit scripts (Done s reply ∷ past) x ∙ p.latest_is;
@@ -245,18 +276,19 @@ refuses scripts before past s block x statement look cause db old between p firs
       alone = tt;
     } in
     let abort_comes : MayCome scripts (Refuse s cause ∷ past) (Abort x) = record {
-      rule = record { open_xact = rw p.session_is p.xact_is; refused_or_idle = inl (rw p.session_is is_refused) };
+      rule = record { open_xact = rw p.session_is p.xact_is; refused_or_idle = inl (inl (rw p.session_is is_refused)) };
       follows = rw p.xact_is refl;
       alone = tt;
     } in
     let end_comes : MayCome scripts (Abort x ∷ Refuse s cause ∷ past) (End s) = record {
-      rule = record { in_step = rw p.hand_is refl; over = inr is_refused; none_implicit = closed_xact };
-      follows = rw (p.session_is, p.hand_is) refl;
+      rule = record { in_step = rw p.hand_is refl; over = inr is_refused; none_implicit = rw (block_refused (s == s) (length past) (block_state past s) (p.blocks s), closed_xact) refl };
+      follows = rw (p.session_is, p.hand_is, same) refl;
       alone = tt;
     } in (
       record {
         legal = (end_comes, (abort_comes, (refuse_comes, p.legal)));
         xacts = λ r. xact_after r (eqb_tells s r);
+      blocks = λ r. block_refused (s == r) (length past) (block_state past r) (p.blocks r);
         owed_is = refl;
         uncut = λ r. refl;
         committed_is = committed_by_abort scripts (Refuse s cause ∷ past) x p.open_fate ∙ p.committed_is;
@@ -291,21 +323,22 @@ pub record IsActOf (x : ℕ) (e : Entry) : Type 0 where
   pub fate_same : (past : Past) (y : ℕ) → fate (e ∷ past) y ≡ fate past y
   pub look_same : (past : Past) (s : ℕ) → look_of (e ∷ past) s ≡ look_of past s
   pub uncut : (past : Past) (s : ℕ) → cancel_cause (e ∷ past) s ≡ None
+  pub block_same : (past : Past) (s : ℕ) → block_state (e ∷ past) s ≡ block_state past s
   pub acts_more : (past : Past) (s : ℕ) → acts_of (e ∷ past) s ≡ cond (is_that (xact_of past s) x) (acts_of past s ++ length past ∷ []) (acts_of past s)
   pub owes_none : (scripts : Scripts) (past : Past) → owed scripts (e ∷ past) ≡ None
   pub in_turn : (scripts : Scripts) (past : Past) → IsTurn (owed scripts past) past (session_of past x) → InTurn scripts past e
 
 is_make : (x table : ℕ) (name : List ℕ) (shape : List Column) → IsActOf x (Make x table name shape)
-is_make x table name shape = record { hand_same = λ past s. refl; dones_same = λ past s. refl; refused_same = λ past s. refl; xact_same = λ past s. refl; session_same = λ past y. refl; fate_same = λ past y. refl; look_same = λ past s. refl; uncut = λ past s. refl; acts_more = λ past s. refl; owes_none = λ scripts past. refl; in_turn = λ scripts past turn. turn }
+is_make x table name shape = record { hand_same = λ past s. refl; dones_same = λ past s. refl; refused_same = λ past s. refl; xact_same = λ past s. refl; session_same = λ past y. refl; fate_same = λ past y. refl; look_same = λ past s. refl; uncut = λ past s. refl; block_same = λ past s. refl; acts_more = λ past s. refl; owes_none = λ scripts past. refl; in_turn = λ scripts past turn. turn }
 
 is_add : (x table : ℕ) (row : List Value) → IsActOf x (Add x table row)
-is_add x table row = record { hand_same = λ past s. refl; dones_same = λ past s. refl; refused_same = λ past s. refl; xact_same = λ past s. refl; session_same = λ past y. refl; fate_same = λ past y. refl; look_same = λ past s. refl; uncut = λ past s. refl; acts_more = λ past s. refl; owes_none = λ scripts past. refl; in_turn = λ scripts past turn. turn }
+is_add x table row = record { hand_same = λ past s. refl; dones_same = λ past s. refl; refused_same = λ past s. refl; xact_same = λ past s. refl; session_same = λ past y. refl; fate_same = λ past y. refl; look_same = λ past s. refl; uncut = λ past s. refl; block_same = λ past s. refl; acts_more = λ past s. refl; owes_none = λ scripts past. refl; in_turn = λ scripts past turn. turn }
 
 is_read : (x : ℕ) (names : List (List ℕ)) (rows : List (List Value)) → IsActOf x (Read x names rows)
-is_read x names rows = record { hand_same = λ past s. refl; dones_same = λ past s. refl; refused_same = λ past s. refl; xact_same = λ past s. refl; session_same = λ past y. refl; fate_same = λ past y. refl; look_same = λ past s. refl; uncut = λ past s. refl; acts_more = λ past s. refl; owes_none = λ scripts past. refl; in_turn = λ scripts past turn. turn }
+is_read x names rows = record { hand_same = λ past s. refl; dones_same = λ past s. refl; refused_same = λ past s. refl; xact_same = λ past s. refl; session_same = λ past y. refl; fate_same = λ past y. refl; look_same = λ past s. refl; uncut = λ past s. refl; block_same = λ past s. refl; acts_more = λ past s. refl; owes_none = λ scripts past. refl; in_turn = λ scripts past turn. turn }
 
 is_alter : (x table statement : ℕ) → IsActOf x (Alter x table statement [])
-is_alter x table statement = record { hand_same = λ past s. refl; dones_same = λ past s. refl; refused_same = λ past s. refl; xact_same = λ past s. refl; session_same = λ past y. refl; fate_same = λ past y. refl; look_same = λ past s. refl; uncut = λ past s. refl; acts_more = λ past s. refl; owes_none = λ scripts past. refl; in_turn = λ scripts past turn. turn }
+is_alter x table statement = record { hand_same = λ past s. refl; dones_same = λ past s. refl; refused_same = λ past s. refl; xact_same = λ past s. refl; session_same = λ past y. refl; fate_same = λ past y. refl; look_same = λ past s. refl; uncut = λ past s. refl; block_same = λ past s. refl; acts_more = λ past s. refl; owes_none = λ scripts past. refl; in_turn = λ scripts past turn. turn }
 
 -- a statement acts once, as its rule says
 acts : (scripts : Scripts) (before past look : Past) (s block x : ℕ) (statement : Statement) (db after : Database) (e : Entry) → InStep scripts before past s block x statement (Some look) db → IsActOf x e → Rule scripts past e → Alone scripts past e → latest scripts (e ∷ past) x ≡ after → Acted scripts before (e ∷ past) s block x statement (length past ∷ []) after
@@ -334,6 +367,7 @@ acts scripts before past look s block x statement db after e p act rule alone la
       none_refused = act.refused_same past s ∙ p.none_refused;
       xact_is = act.xact_same past s ∙ p.xact_is;
       other_xacts = λ r other. act.xact_same past r ∙ p.other_xacts r other;
+      blocks = λ r. act.block_same past r ∙ p.blocks r;
       session_is = act.session_same past x ∙ p.session_is;
       acts_is = act.acts_more past s ∙ rw (p.xact_is, same_x, p.acts_is) refl;
       owed_is = act.owes_none scripts past;

@@ -1,5 +1,5 @@
 -- Laws of the sessions that are kept.
-use Rattle.std.proofs.Common.{◌≡◌, ℕ, zero, suc, ◌+◌, ◌<◌, ◌≤◌, List, [], ◌∷◌, length, refl, sym, ap, cond, true, false, Bool, Option, Some, None, arith, ◌∙◌, inl, inr, slice_get, slice_set, replicate, get_or}
+use Rattle.std.proofs.Common.{◌≡◌, ℕ, zero, suc, ◌+◌, ◌<◌, ◌≤◌, List, [], ◌∷◌, length, refl, sym, ap, true, false, Option, Some, None, arith, ◌∙◌, inl, inr, slice_get, slice_set, replicate, get_or}
 use Rattle.std.specs.Prelude.{◌==◌, ◌≢◌, ◌⊎◌, IsSome, is_some, eqb, IfSome, IfNone}
 use Rattle.std.proofs.lemmas.Bool.{ne_eqb}
 use Rattle.std.proofs.lemmas.Bool.Decides.{eqb_tells}
@@ -9,7 +9,7 @@ use Rattle.al_history.specs.Hand.{hand, closed}
 use Rattle.al_history.specs.Whole.{IsIdle, IsLeast}
 use Rattle.al_engine.specs.declared.sessions.Session.{Session}
 use Rattle.al_engine.specs.Ran.{IsReady}
-use Rattle.al_engine.specs.Sessions.{idle_session, AreIdle, IsFirstBusy, IsMirror, AreMirrors, of_hand, light_of, light}
+use Rattle.al_engine.specs.Sessions.{idle_session, AreIdle, IsFirstBusy, IsMirror, AreMirrors, light_of, light}
 
 -- what is reserved for one session is part of what is reserved for all
 pub light_at : (sessions : List Session) (s : ℕ) (t : Session) → slice_get sessions s ≡ Some t → light_of t ≤ light sessions

@@ -1,5 +1,5 @@
 -- What the entries of a turn are, and what they leave as it was.
-use Rattle.std.proofs.Common.{◌≡◌, ℕ, ◌<◌, List, [], ◌∷◌, ◌++◌, length, refl, ap, cond, true, false, Bool, Option, Some, None, arith, ◌∙◌}
+use Rattle.std.proofs.Common.{◌≡◌, ℕ, ◌<◌, [], ◌∷◌, length, refl, true, false, Bool, Option, Some, None, arith, ◌∙◌}
 use Rattle.std.specs.Prelude.{◌==◌}
 use Rattle.al_history.specs.declared.entry.Cause.{Cause}
 use Rattle.al_history.specs.declared.entry.Entry.{Entry}
@@ -16,7 +16,7 @@ use Rattle.al_history.specs.Made.{made_by, Extends}
 use Rattle.al_history.specs.Whole.{driver, failed_setup}
 use Rattle.al_history.proofs.Pasts.{if_same}
 use Rattle.al_engine.specs.declared.steps.Ended.TheVariants as ends
-use Rattle.al_engine.specs.Steps.{xact_next, act_of, if_table, done_step, past_by_look, past_by_name, past_after}
+use Rattle.al_engine.specs.Steps.{xact_next, act_of, if_table, past_by_look, past_by_name, past_after}
 use Rattle.al_engine.specs.After.{is_refused, end_after, unless_refused}
 use Rattle.al_engine.specs.Ran.{failed_after}
 
@@ -37,6 +37,9 @@ quiet_by None act x f = quiet_look x
 quiet_by (Some t) act x f = f t
 
 quiet_act : (statement : Statement) (past : Past) (db : Database) → IsQuiet (xact_next past) (act_of statement past db)
+quiet_act statements.Begin past db = quiet_look _
+quiet_act statements.Commit past db = quiet_look _
+quiet_act statements.Rollback past db = quiet_look _
 quiet_act (statements.CreateTable name columns) past db = record { drives_not = λ past. refl; fails_not = λ spec past. refl; closes_not = λ past s. refl; hands_not = λ past s. refl; starts_not = λ past y. refl; made_so = λ past. refl }
 quiet_act (statements.Insert name written) past db = quiet_by (named db name) _ _ (λ t. record { drives_not = λ past. refl; fails_not = λ spec past. refl; closes_not = λ past s. refl; hands_not = λ past s. refl; starts_not = λ past y. refl; made_so = λ past. refl })
 quiet_act (statements.Select name) past db = quiet_by (named db name) _ _ (λ t. record { drives_not = λ past. refl; fails_not = λ spec past. refl; closes_not = λ past s. refl; hands_not = λ past s. refl; starts_not = λ past y. refl; made_so = λ past. refl })

@@ -1,5 +1,5 @@
 -- What the engine keeps true of its fields.
-use Rattle.std.specs.Prelude.{◌≡◌, ℕ, ◌≤◌, List, length}
+use Rattle.std.specs.Prelude.{◌≡◌, ◌≤◌, List, length}
 use Rattle.al_history.specs.declared.statement.Scripts.{Scripts}
 use Rattle.al_history.specs.Kept.{Kept}
 use Rattle.al_history.specs.Past.{past_of}

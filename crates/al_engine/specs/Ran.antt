@@ -1,5 +1,5 @@
 -- What contracts see of the engine: the blocks of its run and the journal so far; and what its calls do to these.
-use Rattle.std.specs.Prelude.{◌≡◌, ℕ, ◌<◌, Bool, cond, length, Option, Some, None, IsSome, slice_get, ◌==◌, false, ◌∷◌}
+use Rattle.std.specs.Prelude.{◌≡◌, ℕ, ◌<◌, Bool, cond, length, Option, Some, None, IsSome, slice_get, option_map, ◌==◌, true, false, ◌∷◌}
 use Rattle.std.specs.List.{AllByRecursion}
 use Rattle.al_values.specs.declared.cant.Cant.{Cant}
 use Rattle.al_values.specs.declared.cant.Cant.TheVariants as cants
@@ -11,6 +11,7 @@ use Rattle.al_history.specs.declared.statement.Scripts.{Scripts}
 use Rattle.al_history.specs.Past.{Past}
 use Rattle.al_history.specs.Hand.{hand, closed}
 use Rattle.al_history.specs.Made.{Extends}
+use Rattle.al_history.specs.Rules.{has_place}
 use Rattle.al_history.specs.Legal.{Legal}
 use Rattle.al_history.specs.Whole.{driver, failed_setup, or_else, of_setup, IsIdle, IsLeast, Driven}
 use Rattle.al_engine.specs.declared.told.Busy.{Busy}
@@ -25,10 +26,10 @@ pub record Ran : Type 0 where
 abbrev pub IsLegalRun : Ran → Type 0
 IsLegalRun ran = Legal ran.scripts ran.past
 
--- a block is of one of the sessions, and has one statement
+-- a block is of one of the sessions, and has one statement, which isn't BEGIN, COMMIT or ROLLBACK
 pub record IsSingle (sessions : ℕ) (block : ScriptBlock) : Type 0 where
   pub known : block.session < sessions
-  pub has_one : IsSome (slice_get block.script 0)
+  pub has_one : option_map has_place (slice_get block.script 0) ≡ Some true
   pub has_no_more : slice_get block.script 1 ≡ None
 
 abbrev pub AreSingle : Scripts → Type 0

@@ -43,18 +43,20 @@ abbrev pub if_table : Option Table → (Table → Entry) → Entry → Entry
 if_table None act other = other
 if_table (Some t) act other = act t
 
--- what the statement does
+-- what the statement does; BEGIN, COMMIT and ROLLBACK aren't run so
 abbrev pub act_of : Statement → Past → Database → Entry
 act_of (statements.CreateTable name columns) past db = Make (xact_next past) (act_place past) name (shape_of columns)
 act_of (statements.Insert name written) past db = if_table (named db name) (λ t. Add (xact_next past) t.number (filled t.columns written)) (Look (xact_next past))
 act_of (statements.Select name) past db = if_table (named db name) (λ t. Read (xact_next past) (column_names t) (answer t)) (Look (xact_next past))
 act_of (statements.AddColumn name column) past db = if_table (named db name) (λ t. Alter (xact_next past) t.number 0 []) (Look (xact_next past))
+act_of statement past db = Look (xact_next past)
 
 abbrev pub reply_of : Statement → Past → Reply
 reply_of (statements.CreateTable name columns) past = replies.Tag tags.CreateTable 0
 reply_of (statements.Insert name written) past = replies.Tag tags.Insert 1
 reply_of (statements.Select name) past = replies.Rows (act_place past)
 reply_of (statements.AddColumn name column) past = replies.Tag tags.AlterTable 0
+reply_of statement past = replies.Tag tags.Begin 0
 
 abbrev pub past_by_look : ℕ → Statement → Past → Database → Option Cause → Past
 past_by_look s statement past db None = done_step s (act_of statement past db) (reply_of statement past) past
@@ -78,6 +80,7 @@ changed (statements.CreateTable name columns) place db = made place name (shape_
 changed (statements.Insert name written) place db = db_if_table (named db name) (λ t. added place t.number (filled t.columns written) db) db
 changed (statements.Select name) place db = db
 changed (statements.AddColumn name column) place db = db_if_table (named db name) (λ t. altered (Some (statements.AddColumn name column)) t.number db) db
+changed statement place db = db
 
 abbrev pub unless : Option Cause → Database → Database → Database
 unless None changed db = changed

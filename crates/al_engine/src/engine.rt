@@ -1,7 +1,8 @@
-ghost use Rattle.std.specs.Prelude.{◌≡◌, ◌+◌, ◌<◌, ◌≤◌, ◌∷◌, [], false, None, Some, length, IfOk, IfErr, OnOk, OnErr, IsSome, slice_get, option_map};
+ghost use Rattle.std.specs.Prelude.{◌≡◌, ◌+◌, ◌<◌, ◌≤◌, ◌∷◌, [], true, false, None, Some, length, IfOk, IfErr, OnOk, OnErr, IsSome, slice_get, option_map};
 ghost use Rattle.al_history.specs.declared.entry.Entry.TheVariants.{Give, Close};
 ghost use Rattle.al_history.specs.Past.{past_of};
 ghost use Rattle.al_history.specs.Hand.{hand, closed, statement_of};
+ghost use Rattle.al_history.specs.Rules.{has_place};
 ghost use Rattle.al_engine.specs.Ran.{Ran, IsLegalRun, AreSingle, IsBusyFor, IsTurned, cancelled, IsReady};
 ghost use Rattle.al_engine.specs.After.{IsAfter, IsBefore};
 ghost use Rattle.al_engine.specs.Stored.{AreSound};
@@ -17,7 +18,8 @@ use std::alloc::Global;
 use std::marker::Model;
 
 /// The sessions of one run, over a database that is empty at first. Contracts see the blocks that may be given and the
-/// past of the journal. So far each block has one statement.
+/// past of the journal. So far each block has one statement,
+/// which isn't BEGIN, COMMIT or ROLLBACK.
 #[derive(Debug, Drop)]
 pub struct Engine {
     scripts: Scripts,
@@ -168,8 +170,9 @@ impl Engine {
 
 /// The one statement of a block.
 fn statement_at(scripts: &Scripts, block: u32) -> &Statement
-    requires { IsSome (statement_of scripts.now (Some block) 0) }
-    ensures { statement_of scripts.now (Some block) 0 ≡ Some result.now }
+    requires { option_map has_place (statement_of scripts.now (Some block) 0) ≡ Some true }
+    ensures is { statement_of scripts.now (Some block) 0 ≡ Some result.now }
+    ensures plain { has_place result.now ≡ true }
 {
     let block = scripts.blocks.get(block as usize).unwrap();
     block.script.get(0).unwrap()
@@ -185,12 +188,14 @@ fn run(
 ) -> Result<Ended, NoMemory>
     requires sound { AreSound 0 (length (past_of journal.old)) tables.old.items }
     requires room { 4 ≤ journal.old.room }
+    requires plain { has_place statement.now ≡ true }
     ensures ok { IfOk result (λ ended. IsAfter ended session statement.now (past_of journal.old) (past_of journal.new) tables.old.items tables.new.items) }
     ensures err { OnErr result (IsBefore (past_of journal.old) (past_of journal.new) tables.old.items tables.new.items) }
     ensures room { journal.old.room ≤ journal.new.room + 4 }
     ensures spare { OnErr result (journal.old.room ≤ journal.new.room) }
 {
     match statement {
+        Statement::Begin | Statement::Commit | Statement::Rollback => unreachable!(),
         Statement::CreateTable { table, columns } => create_table(
             alloc, journal, tables, session, table, columns,
         ),

@@ -15,7 +15,7 @@ use Rattle.al_history.specs.View.{latest}
 use Rattle.al_history.specs.Cause.{cause_of}
 use Rattle.al_history.specs.Tail.{owed, Follows}
 use Rattle.std.proofs.Common.{inl}
-use Rattle.al_history.specs.Rules.{starts, looks, ActRule, Creates, Inserts, Selects, Alters, Answers, looked_at}
+use Rattle.al_history.specs.Rules.{starts, has_place, ActRule, Creates, Inserts, Selects, Alters, Answers, looked_at}
 use Rattle.al_history.specs.Alone.{UsesOwn}
 use Rattle.al_history.specs.Legal.{MayCome, Legal}
 
@@ -38,7 +38,7 @@ pub may_start : {scripts : Scripts} {past : Past} {s : ℕ} → option_map (star
 may_start statement none_open follows = record { rule = record { statement = statement; none_open = none_open; read_committed = refl }; follows = follows; alone = tt }
 
 -- a Look
-pub may_look : {scripts : Scripts} {past : Past} {x : ℕ} → xact_of past (session_of past x) ≡ Some x → option_map looks (in_hand scripts past (session_of past x)) ≡ Some true → look_of past (session_of past x) ≡ None → cause_of scripts past (session_of past x) ≡ None → Follows (owed scripts past) (Look x) → MayCome scripts past (Look x)
+pub may_look : {scripts : Scripts} {past : Past} {x : ℕ} → xact_of past (session_of past x) ≡ Some x → option_map has_place (in_hand scripts past (session_of past x)) ≡ Some true → look_of past (session_of past x) ≡ None → cause_of scripts past (session_of past x) ≡ None → Follows (owed scripts past) (Look x) → MayCome scripts past (Look x)
 may_look open_xact statement first not_refused follows = record { rule = record { open_xact = open_xact; statement = statement; first = first; not_refused = not_refused }; follows = follows; alone = λ table used. tt }
 
 -- what a statement does

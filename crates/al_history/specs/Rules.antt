@@ -44,16 +44,16 @@ pub record StartRule (scripts : Scripts) (past : Past) (s : ℕ) (level : Level)
   pub read_committed : level ≡ levels.ReadCommitted
 
 -- whether a statement has a place: BEGIN, COMMIT and ROLLBACK have none
-abbrev pub looks : Statement → Bool
-looks statements.Begin = false
-looks statements.Commit = false
-looks statements.Rollback = false
-looks statement = true
+abbrev pub has_place : Statement → Bool
+has_place statements.Begin = false
+has_place statements.Commit = false
+has_place statements.Rollback = false
+has_place statement = true
 
 -- the statement in hand of an open transaction gets its place, once, where the table that it uses is there
 pub record LookRule (scripts : Scripts) (past : Past) (x : ℕ) : Type 0 where
   pub open_xact : xact_of past (session_of past x) ≡ Some x
-  pub statement : option_map looks (in_hand scripts past (session_of past x)) ≡ Some true
+  pub statement : option_map has_place (in_hand scripts past (session_of past x)) ≡ Some true
   pub first : look_of past (session_of past x) ≡ None
   pub not_refused : cause_of scripts past (session_of past x) ≡ None
 
