@@ -9,3 +9,4 @@ pub mod VectorsViews
 pub mod VectorsWhole
 pub mod VectorsWrong
 pub mod Views
+pub mod Stores
