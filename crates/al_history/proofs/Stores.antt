@@ -13,8 +13,9 @@ use Rattle.al_history.specs.Database.{VersionedRow, Table, Database, named, has_
 use Rattle.al_history.specs.Change.{made, with_row, added, alteration, after_alteration, altered}
 use Rattle.al_history.specs.Fate.{Fate, Open, Committed, Aborted, fate}
 use Rattle.al_history.specs.Hand.{hand, session_of, statement_of}
-use Rattle.al_history.specs.View.{for_both, for_inside, view_by}
-use Rattle.al_history.specs.Store.{Slot, KeptRow, KeptTable, shown_columns, shown_values, shown_row, shown_rows, shown_table, shown, sees, stands, spread, with_kept, kept_row, kept_slot, slots_of, store}
+use Rattle.al_history.specs.View.{for_both, for_inside, view_by, latest, committed}
+use mathlib.Core.Path.{fun_ext}
+use Rattle.al_history.specs.Store.{is_committed, Slot, KeptRow, KeptTable, shown_columns, shown_values, shown_row, shown_rows, shown_table, shown, sees, stands, spread, with_kept, kept_row, kept_slot, slots_of, store}
 use Rattle.al_history.specs.Fits.{CanSee, Agree, EachOf, MakeFits, AddFits, Fits}
 
 -- ---- numbers ascend, rows are short
@@ -309,11 +310,14 @@ adds : (scripts : Scripts) (past : Past) (f : ℕ → Bool) (x table : ℕ) (row
 adds scripts past f x table row fits can sound = by_seen (f x) refl where
   own : (seen : f x ≡ true) (low : ℕ) (tables : List KeptTable) → AreSound low (length past) tables → EachOf table (λ t. f t.maker ≡ true → Agree f (sees past (Some x)) t.slots × (length row ≡ length (shown_columns f t.slots))) tables → EachOf table (λ t. f t.maker ≡ true → shown_table f (kept_row (length past) x (sees past (Some x)) row t) ≡ with_row (length past) row (shown_table f t)) tables
   own seen low [] sound each = tt
-  own seen low (t ∷ tables) sound each = ((λ is maker.
-      let fit = each.0 is maker in
-      let fresh : has_row (shown_rows f t.slots t.rows) (length past) ≡ false = row_fresh f t.slots (length past) t.rows sound.0.rows_below in
-      let fits_so : (length row == length (shown_columns f t.slots)) ≡ true = eq-eqb _ _ fit.1 in
-      rw (fresh, fits_so, shown_rows_push, seen, shown_spread f (sees past (Some x)) t.slots row fit.0 fit.1) refl), own seen (t.number + 1) tables sound.1 each.1)
+  own seen low (t ∷ tables) sound each = (
+    (λ is maker.
+        let fit = each.0 is maker in
+        let fresh : has_row (shown_rows f t.slots t.rows) (length past) ≡ false = row_fresh f t.slots (length past) t.rows sound.0.rows_below in
+        let fits_so : (length row == length (shown_columns f t.slots)) ≡ true = eq-eqb _ _ fit.1 in
+        rw (fresh, fits_so, shown_rows_push, seen, shown_spread f (sees past (Some x)) t.slots row fit.0 fit.1) refl),
+    own seen (t.number + 1) tables sound.1 each.1,
+  )
 
   other : (seen : f x ≡ false) (tables : List KeptTable) → EachOf table (λ t. shown_table f (kept_row (length past) x (sees past (Some x)) row t) ≡ shown_table f t) tables
   other seen [] = tt
@@ -394,3 +398,29 @@ serves_all scripts (Abort x ∷ past) f fits can = serves_all scripts past f fit
 serves_all scripts (Cancel s ∷ past) f fits can = serves_all scripts past f fits (still past _ f (λ z. refl) can)
 serves_all scripts (End s ∷ past) f fits can = serves_all scripts past f fits (still past _ f (λ z. refl) can)
 serves_all scripts (Close s ∷ past) f fits can = serves_all scripts past f fits (still past _ f (λ z. refl) can)
+
+-- what a reader sees stands where the journal says
+sees_stands : (past : Past) (reader : Option ℕ) (z : ℕ) → standing past past reader z ≡ stands (sees past reader) z
+sees_stands past reader z = by_fate (is_that reader z) (fate past z) where
+  by_fate : (b : Bool) (f : Fate) → cond b Inside (inside_if f (outside_if f)) ≡ cond (b || is_committed f) Inside Absent
+  by_fate true f = refl
+  by_fate false Open = refl
+  by_fate false Committed = refl
+  by_fate false Aborted = refl
+
+-- a transaction that isn't aborted sees its own and what is committed, and nobody sees what is committed
+may_see : (past : Past) (x : ℕ) → fate past x ≡ Open → CanSee past (sees past (Some x))
+may_see past x open_so = record {
+  committed = λ z e. rw e (or_true (x == z));
+  aborted = λ z e. let other : (x == z) ≡ false = ne_eqb x z (λ (same : x ≡ z). let both : ◌≡◌ {A = Fate} Open Aborted = sym open_so ∙ rw same e in cc) in rw (other, e) refl;
+} where
+  or_true : (b : Bool) → (b || true) ≡ true
+  or_true true = refl
+  or_true false = refl
+
+-- the latest database of an open transaction, and the committed one, are shown by the one list
+pub latest_shown : (scripts : Scripts) (past : Past) (x : ℕ) → Fits scripts past → fate past x ≡ Open → latest scripts past x ≡ shown (sees past (Some x)) (store scripts past)
+latest_shown scripts past x fits open_so = ap (λ (s : ℕ → Standing). view_by scripts s past) (fun_ext (sees_stands past (Some x))) ∙ serves_all scripts past (sees past (Some x)) fits (may_see past x open_so)
+
+pub committed_shown : (scripts : Scripts) (past : Past) → Fits scripts past → committed scripts past ≡ shown (sees past None) (store scripts past)
+committed_shown scripts past fits = ap (λ (s : ℕ → Standing). view_by scripts s past) (fun_ext (sees_stands past None)) ∙ serves_all scripts past (sees past None) fits (record { committed = λ z e. rw e refl; aborted = λ z e. rw e refl })
