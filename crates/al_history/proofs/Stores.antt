@@ -1,6 +1,6 @@
 -- The one list serves every reader that sees what is committed and nothing that is aborted.
 use Rattle.std.proofs.Common.{◌≡◌, ℕ, suc, ◌+◌, ◌<◌, ◌≤◌, List, [], ◌∷◌, ◌++◌, length, map, refl, sym, ap, cond, true, false, Bool, Option, Some, None, arith, ◌∙◌}
-use Rattle.std.specs.Prelude.{◌==◌, is_some}
+use Rattle.std.specs.Prelude.{◌||◌, ◌==◌, is_some}
 use Rattle.std.proofs.lemmas.Bool.{ne_eqb, eq-eqb, eqb-true}
 use Rattle.al_values.specs.declared.scalar.Value.{Value}
 use Rattle.al_history.specs.declared.entry.Entry.TheVariants.{Give, Start, Look, Make, Add, Read, Alter, Done, Refuse, Commit, Abort, Cancel, End, Close}
@@ -11,7 +11,7 @@ use Rattle.al_history.specs.declared.statement.Scripts.{Scripts}
 use Rattle.al_history.specs.Past.{Past}
 use Rattle.al_history.specs.Database.{VersionedRow, Table, Database, named, has_table, has_row, has_column, with_table}
 use Rattle.al_history.specs.Change.{made, with_row, added, alteration, after_alteration, altered}
-use Rattle.al_history.specs.Fate.{Fate, Open, Committed, Aborted, fate}
+use Rattle.al_history.specs.Fate.{Fate, Open, Committed, Aborted, fate, is_that, Standing, Inside, Absent, standing, inside_if, outside_if}
 use Rattle.al_history.specs.Hand.{hand, session_of, statement_of}
 use Rattle.al_history.specs.View.{for_both, for_inside, view_by, latest, committed}
 use mathlib.Core.Path.{fun_ext}
