@@ -3,7 +3,7 @@ use Rattle.std.specs.Prelude.{◌≡◌, ℕ, zero, suc, List, [], ◌∷◌, �
 use Rattle.std.proofs.Common.{arith, inl}
 use Rattle.al_values.specs.declared.scalar.Value.{Value}
 use Rattle.al_values.specs.declared.scalar.Value.TheVariants as values
-use Rattle.al_history.specs.declared.entry.Level.TheVariants as levels
+use Rattle.al_modes.specs.declared.level.Level.TheVariants as levels
 use Rattle.al_history.specs.declared.entry.Tag.TheVariants as tags
 use Rattle.al_history.specs.declared.entry.Reply.TheVariants as replies
 use Rattle.al_history.specs.declared.entry.Entry.{Entry}

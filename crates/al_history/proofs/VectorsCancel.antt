@@ -1,7 +1,7 @@
 -- A step that is cancelled.
 use Rattle.std.specs.Prelude.{[], ◌∷◌, refl}
 use Rattle.std.proofs.Common.{inl, inr}
-use Rattle.al_history.specs.declared.entry.Level.TheVariants as levels
+use Rattle.al_modes.specs.declared.level.Level.TheVariants as levels
 use Rattle.al_history.specs.declared.entry.Cause.TheVariants as causes
 use Rattle.al_history.specs.declared.entry.Entry.TheVariants.{Give, Start, Refuse, Abort, Cancel, End}
 use Rattle.al_history.specs.Legal.{IsLegal}

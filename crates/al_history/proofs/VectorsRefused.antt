@@ -2,7 +2,7 @@
 use Rattle.std.specs.Prelude.{◌≡◌, ℕ, [], ◌∷◌, ◌++◌, Option, Some, None, slice_index}
 use Rattle.std.proofs.Common.{arith, ap, inl, inr}
 use Rattle.al_values.specs.declared.scalar.Value.TheVariants as values
-use Rattle.al_history.specs.declared.entry.Level.TheVariants as levels
+use Rattle.al_modes.specs.declared.level.Level.TheVariants as levels
 use Rattle.al_history.specs.declared.entry.Tag.TheVariants as tags
 use Rattle.al_history.specs.declared.entry.Reply.TheVariants as replies
 use Rattle.al_history.specs.declared.entry.Cause.{Cause}

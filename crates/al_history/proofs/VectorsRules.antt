@@ -1,7 +1,7 @@
 -- Each entry of a vector may come where what its rule asks computes: one lemma for each kind of entry.
 use Rattle.std.specs.Prelude.{◌≡◌, refl, ℕ, List, [], ◌∷◌, true, false, Option, Some, None, IsSome, slice_get, option_map, length, ◌⊎◌, ◌<◌}
 use Rattle.al_values.specs.declared.scalar.Value.{Value}
-use Rattle.al_history.specs.declared.entry.Level.TheVariants as levels
+use Rattle.al_modes.specs.declared.level.Level.TheVariants as levels
 use Rattle.al_history.specs.declared.entry.Reply.{Reply}
 use Rattle.al_history.specs.declared.entry.Cause.{Cause}
 use Rattle.al_history.specs.declared.entry.Entry.{Entry}

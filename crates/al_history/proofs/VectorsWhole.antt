@@ -1,7 +1,7 @@
 -- Runs, and journals that are legal but no whole run's.
 use Rattle.std.specs.Prelude.{zero, suc, ◌≤◌, true, ℕ, List, [], ◌∷◌, ◌++◌, ◌<◌, ◌≡◌, reverse, codes, refl}
 use Rattle.std.proofs.Common.{arith, inl, inr}
-use Rattle.al_history.specs.declared.entry.Level.TheVariants as levels
+use Rattle.al_modes.specs.declared.level.Level.TheVariants as levels
 use Rattle.al_history.specs.declared.entry.Tag.TheVariants as tags
 use Rattle.al_history.specs.declared.entry.Reply.TheVariants as replies
 use Rattle.al_history.specs.declared.entry.Cause.TheVariants as causes

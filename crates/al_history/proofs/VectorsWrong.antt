@@ -2,7 +2,7 @@
 use Rattle.std.specs.Prelude.{◌≡◌, ℕ, List, [], ◌∷◌, ◌++◌, ◌<◌, slice_index}
 use Rattle.std.proofs.Common.{inl, inr, arith, ap}
 use Rattle.al_values.specs.declared.scalar.Value.TheVariants as values
-use Rattle.al_history.specs.declared.entry.Level.TheVariants as levels
+use Rattle.al_modes.specs.declared.level.Level.TheVariants as levels
 use Rattle.al_history.specs.declared.entry.Tag.TheVariants as tags
 use Rattle.al_history.specs.declared.entry.Reply.{Reply}
 use Rattle.al_history.specs.declared.entry.Reply.TheVariants as replies

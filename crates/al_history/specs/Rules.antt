@@ -1,8 +1,8 @@
 -- When an entry may stand after a past. Each rule is a record of what it asks.
 use Rattle.std.specs.Prelude.{◌≡◌, ℕ, List, [], ◌∷◌, Bool, true, false, length, Option, Some, None, IsSome, slice_get, option_map, ◌⊎◌, ◌<◌}
 use Rattle.al_values.specs.declared.scalar.Value.{Value}
-use Rattle.al_history.specs.declared.entry.Level.{Level}
-use Rattle.al_history.specs.declared.entry.Level.TheVariants as levels
+use Rattle.al_modes.specs.declared.level.Level.{Level}
+use Rattle.al_modes.specs.declared.level.Level.TheVariants as levels
 use Rattle.al_history.specs.declared.entry.Tag.{Tag}
 use Rattle.al_history.specs.declared.entry.Tag.TheVariants as tags
 use Rattle.al_history.specs.declared.entry.Reply.{Reply}

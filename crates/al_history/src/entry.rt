@@ -1,14 +1,6 @@
 use crate::{NumberedRowList, RewrittenList, Shape};
+use al_modes::Level;
 use al_values::{Name, NameList, Row, RowList};
-
-/// An isolation level (13.2).
-#[derive(Clone, Copy, Debug, PartialEq, Eq)]
-pub enum Level {
-    /// READ COMMITTED.
-    ReadCommitted,
-    /// REPEATABLE READ.
-    RepeatableRead,
-}
 
 /// A reply that is a command tag.
 #[derive(Clone, Copy, Debug, PartialEq, Eq)]

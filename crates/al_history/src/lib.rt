@@ -8,8 +8,9 @@ mod run;
 mod spec;
 mod statement;
 
+pub use al_modes::Level;
 use al_values::{IdList, ListOf};
-pub use entry::{Cause, Entry, Level, NumberedRow, Reply, Rewritten, Tag};
+pub use entry::{Cause, Entry, NumberedRow, Reply, Rewritten, Tag};
 pub use history::History;
 pub use run::{Run, Setup};
 pub use spec::{Block, Part, Spec, SpecFault};
