@@ -1,6 +1,7 @@
 ghost use Rattle.std.specs.Prelude.{Some};
 ghost use Rattle.al_values.specs.Days.{day_text};
 
+use jiff_core::civil::Date;
 use std::fmt;
 
 /// A day number that is to be printed.

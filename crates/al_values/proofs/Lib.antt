@@ -1,0 +1,4 @@
+mod Blanks
+mod Dates
+mod Digits
+mod Ends
