@@ -1,4 +1,6 @@
 mod Blanks
 mod Dates
+mod DayNumbers
+mod DayTexts
 mod Digits
 mod Ends

@@ -39,7 +39,8 @@ padded_to digits number = replicate (digits - length (decimal number)) 48 ++ dec
 
 -- YYYY-MM-DD
 abbrev pub date_text : ℕ → ℕ → ℕ → List ℕ
-date_text year month day = padded_to 4 year ++ codes "-" ++ padded_to 2 month ++ codes "-" ++ padded_to 2 day
+date_text year month day =
+    padded_to 4 year ++ (codes "-" ++ (padded_to 2 month ++ (codes "-" ++ padded_to 2 day)))
 
 -- a day as it is printed; one outside the years 1 to 9999, which no statement gives, by its number
 unfoldable pub day_text : ℤ → List ℕ
