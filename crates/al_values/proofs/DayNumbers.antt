@@ -39,21 +39,21 @@ number_gt y m d y₂ m₂ d₂ h =
     let b = days_from_civil-day_count (pos y₂) m₂ d₂ in
     grind (arith, ints)
 
-year_is : (y m d : ℕ) → 1 ≤ y → IsCivilDate (pos y) m d → y ≡ year_of (day_number y m d)
+pub year_is : (y m d : ℕ) → 1 ≤ y → IsCivilDate (pos y) m d → y ≡ year_of (day_number y m d)
 unfolding year_of
 year_is y m d from real =
     let begun : day_count (pos y) 1 1 ≤ day_count (pos y) m d = omega (arith, day_count-day_of_year (pos y) m d real.2.0) in
     last_is 9999 y _ from (omega (arith, signed_arith, real.0)) (number_le y 1 1 y m d begun)
     (λ later after up_to. number_gt y m d later 1 1 (day_count-lt_year (pos y) m d (pos later) 1 1 real (omega arith) (omega (arith, signed_arith))))
 
-month_is : (y m d : ℕ) → 1 ≤ y → IsCivilDate (pos y) m d → m ≡ month_of (day_number y m d)
+pub month_is : (y m d : ℕ) → 1 ≤ y → IsCivilDate (pos y) m d → m ≡ month_of (day_number y m d)
 unfolding month_of
 month_is y m d from real =
     rw (← year_is y m d from real)
     (last_is 12 m _ real.1.0 real.1.1 (number_le y m 1 y m d (omega (arith, day_count-day (pos y) m d 1 real.2.0 (omega arith))))
     (λ later after up_to. number_gt y m d y later 1 (day_count-lt_month (pos y) m d later 1 real (omega arith) after)))
 
-place_is : (y m d : ℕ) → 1 ≤ y → IsCivilDate (pos y) m d → d ≡ place_of (day_number y m d)
+pub place_is : (y m d : ℕ) → 1 ≤ y → IsCivilDate (pos y) m d → d ≡ place_of (day_number y m d)
 unfolding place_of
 place_is y m d from real =
     let same = days_from_civil-day (pos y) m d 1 real.2.0 (omega arith) in
@@ -70,7 +70,7 @@ before_year_one d early =
     grind (arith, ints, first_count)
 
 -- 1 January of the year 1 is the first day of all
-not_before : (y : ℤ) (m d : ℕ) → IsCivilDate y m d → pos 1 ≤ℤ y → 3_652_791 ≤ day_count y m d
+pub not_before : (y : ℤ) (m d : ℕ) → IsCivilDate y m d → pos 1 ≤ℤ y → 3_652_791 ≤ day_count y m d
 not_before y m d real late =
     let first : IsCivilDate (pos 1) 1 1 =
     ((omega (arith, signed_arith), omega (arith, signed_arith)), (omega arith, omega arith), (omega arith, omega arith)) in

@@ -12,6 +12,8 @@ mod listed;
 mod order;
 mod reading;
 mod scalar;
+#[cfg(test)]
+mod tests;
 mod text;
 
 pub use cant::{Cant, NoMemory};
