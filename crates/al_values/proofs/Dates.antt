@@ -9,7 +9,7 @@ use Rattle.al_values.specs.Reading.{dated, date_read, unsigned_of}
 use Rattle.al_values.proofs.Digits.{capped}
 
 -- what is_date says of its numbers
-is_date_small : (year month day : ℕ) → is_date year month day ≡ true → (year ≤ 9999) × (month ≤ 12) × (day ≤ 31)
+pub is_date_small : (year month day : ℕ) → is_date year month day ≡ true → (year ≤ 9999) × (month ≤ 12) × (day ≤ 31)
 is_date_small year month day date =
     let short = (days_in_month_bounds (pos year) month).0 in
     let small : (year ≤ 9999) × (month ≤ 12) × (day ≤ days_in_month (pos year) month) = grind (arith, nat_tests) in

@@ -5,4 +5,5 @@ mod DayNumbers
 mod DayTexts
 mod Digits
 mod Ends
+mod ReadAgain
 mod Vectors
