@@ -1,19 +1,32 @@
-//! Values of SQL, and the small types that every crate names: texts, lists, and the error of a call that finds no
+//! Values of SQL with their kinds and conversions, and the small types that every crate names: texts, lists, and the error of a call that finds no
 //! memory.
 #![tactic(auto)]
 
 mod cant;
+mod characters;
+mod convert;
 mod copied;
 mod counts;
+mod days;
+mod kinds;
 mod listed;
+mod order;
+mod reading;
 mod scalar;
+#[cfg(test)]
+mod tests;
 mod text;
 
 pub use cant::{Cant, NoMemory};
+pub use characters::count_characters;
+pub use convert::{assign, cast};
 pub use copied::Copied;
 pub use counts::count_of;
+pub use kinds::{CastFault, Group, Kind, Tri};
 pub use listed::ListOf;
-pub use scalar::Value;
+pub use order::compare;
+pub use reading::read;
+pub use scalar::{Value, print};
 pub use text::Txt;
 
 /// A name of a table, a column, a session or a step.
