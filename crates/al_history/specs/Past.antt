@@ -1,5 +1,5 @@
 -- A journal read from its end.
-use Rattle.std.specs.Prelude.{ℕ, List, [], ◌∷◌, ◌==◌, cond, reverse, length, Option, Some, None}
+use Rattle.std.specs.Prelude.{ℕ, List, reverse}
 use Rattle.al_history.specs.declared.entry.Entry.{Entry}
 use Rattle.al_history.specs.Kept.{Kept}
 
@@ -11,8 +11,3 @@ Past = List Entry
 -- the past of a journal
 abbrev pub past_of : Kept → Past
 past_of journal = reverse journal.entries
-
--- the entry at a place
-abbrev pub entry_at : Past → ℕ → Option Entry
-entry_at [] place = None
-entry_at (e ∷ past) place = cond (length past == place) (Some e) (entry_at past place)
