@@ -1,0 +1,6 @@
+pub mod FirstTokens
+pub mod Leaf
+pub mod Pair
+pub mod Choices
+pub mod Many
+pub mod WholeTexts
