@@ -1,0 +1,6 @@
+pub mod Runs
+pub mod Slices
+pub mod Quotes
+pub mod Starts
+pub mod Pieces
+pub mod Unique

@@ -1,0 +1,6 @@
+//! Spec files of PostgreSQL's isolation tester (src/test/isolation/README): their tokens, their grammar, and what they say.
+#![tactic(auto)]
+
+mod bytes;
+mod kinds;
+mod lex;
