@@ -4,3 +4,4 @@ pub mod Pair
 pub mod Choices
 pub mod Many
 pub mod WholeTexts
+pub mod Skims

@@ -16,7 +16,7 @@ module _ (T A : Type 0) (s : Shape) (kind : T → ℕ) (p : Rule T s A) (pl : La
   shorter_by [] rest ts e b = absurd (clash b refl)
   shorter_by (t ∷ used) rest ts e b = let l : length ts ≡ suc (length (used ++ rest)) = ap length e in omega (arith, length-append used rest)
 
-  shorter : (ts rest : List T) (v : A) → p.reads ts ≡ read v rest → length rest < length ts
+  pub shorter : (ts rest : List T) (v : A) → p.reads ts ≡ read v rest → length rest < length ts
   shorter ts rest v e = let t = pl.takes ts rest v e in shorter_by t.used rest ts t.split (begins_one t.used v t.is)
 
   abbrev times : ℕ → List T → Step T (List A)

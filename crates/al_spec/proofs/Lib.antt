@@ -4,3 +4,6 @@ pub mod Quotes
 pub mod Starts
 pub mod Pieces
 pub mod Unique
+pub mod FileLaws
+pub mod Readers
+pub mod Syntax

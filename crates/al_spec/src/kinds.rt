@@ -31,6 +31,20 @@ pub enum Lexeme {
     Stray,
 }
 
+/// What a token is to the grammar.
+#[derive(Clone, Copy, Debug, Drop)]
+pub enum Kind {
+    Setup,
+    Teardown,
+    Session,
+    Step,
+    Permutation,
+    Name,
+    Block,
+    /// What no rule takes.
+    Other,
+}
+
 /// A token, with the place of its first byte.
 #[derive(Debug, Drop)]
 pub struct Token {

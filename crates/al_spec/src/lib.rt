@@ -4,3 +4,8 @@
 mod bytes;
 mod kinds;
 mod lex;
+mod parse;
+mod notes;
+mod spec;
+
+pub use spec::{Block, BlockList, Part, PermutationList, Spec, SpecFault, SpecLimit};
