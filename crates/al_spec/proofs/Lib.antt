@@ -7,3 +7,5 @@ pub mod Unique
 pub mod FileLaws
 pub mod Readers
 pub mod Syntax
+pub mod Works
+pub mod Kept

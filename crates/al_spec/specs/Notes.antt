@@ -1,5 +1,5 @@
 -- What the tokens of a spec file say one after another, and which of them breaks a rule beside the grammar.
-use Rattle.std.specs.Prelude.{◌≡◌, ℕ, ◌+◌, Bool, true, false, ◌&&◌, ◌==◌, nat_lt, List, [], ◌∷◌, ◌++◌, length, map, sum, Option, Some, None, is_some, Result, Ok, Err, bytes_eq, if◌then◌else◌}
+use Rattle.std.specs.Prelude.{◌≡◌, ℕ, zero, suc, ◌+◌, Bool, true, false, ◌&&◌, ◌==◌, nat_lt, List, [], ◌∷◌, ◌++◌, length, map, sum, Option, Some, None, is_some, Result, Ok, Err, bytes_eq, if◌then◌else◌}
 use Rattle.al_spec.specs.declared.kinds.Word.{Word}
 use Rattle.al_spec.specs.declared.kinds.Word.TheVariants as words
 use Rattle.al_spec.specs.declared.kinds.Lexeme.{Lexeme}
@@ -28,6 +28,11 @@ number_from i name (b ∷ bs) = if is_step b.part && bytes_eq name b.name then S
 abbrev pub number_of : List ℕ → List Block → Option ℕ
 number_of name blocks = number_from 0 name blocks
 
+-- what stands there, or else a number where a test holds
+abbrev pub or_else : Option ℕ → Bool → ℕ → Option ℕ
+or_else (Some i) test number = Some i
+or_else None test number = if test then Some number else None
+
 -- how many `;` (59) a text has
 abbrev pub semicolons : List ℕ → ℕ
 semicolons [] = 0
@@ -38,8 +43,11 @@ abbrev pub work_of : Block → ℕ
 work_of b = 1 + semicolons b.text
 
 -- the work of a block in every permutation: none of a step
+abbrev pub fixed : Part → ℕ → ℕ
+fixed part work = if is_step part then 0 else work
+
 abbrev pub fixed_work : Block → ℕ
-fixed_work b = if is_step b.part then 0 else work_of b
+fixed_work b = fixed b.part (work_of b)
 
 abbrev pub base_work : List Block → ℕ
 base_work [] = 0
@@ -111,9 +119,12 @@ part_of (Some words.Setup) session = control_or session parts.Setup parts.Sessio
 part_of (Some words.Teardown) session = control_or session parts.Teardown parts.SessionTeardown
 part_of other session = parts.Step
 
+abbrev pub name_for : Part → List ℕ → List ℕ
+name_for parts.Step name = name
+name_for other name = []
+
 abbrev pub block_of : Part → ℕ → List ℕ → List ℕ → Block
-block_of parts.Step session name text = record { part = parts.Step; session = session; name = name; text = text }
-block_of part session name text = record { part = part; session = session; name = []; text = text }
+block_of part session name text = record { part = part; session = session; name = name_for part name; text = text }
 
 abbrev pub note_block : List ℕ → ℕ → Noted → Result Noted SpecFault
 note_block text at n =
