@@ -1,8 +1,8 @@
 -- What the readers of combined rules leave.
-use Rattle.std.proofs.Common.{◌≡◌, ℕ, ◌<◌, Bool, true, false, List, [], ◌∷◌, length, drop, Option, Some, None, Result, Ok, Err, refl, sym, ap, ◌∙◌, subst}
+use Rattle.std.proofs.Common.{◌≡◌, ℕ, ◌<◌, Bool, true, false, List, [], ◌∷◌, length, Option, Some, Ok, Err, refl, ap, ◌∙◌}
 use Rattle.std.specs.Prelude.{if◌then◌else◌}
 use Rattle.al_grammar.specs.Kinds.{among, starts}
-use Rattle.al_grammar.specs.Rules.{Shape, Step, read, fault, Rule, and_then, taken, leaf_reads, pair_reads, optional, many, many_reads}
+use Rattle.al_grammar.specs.Rules.{Shape, Step, read, fault, Rule, and_then, taken, leaf_reads, pair_reads, optional, many}
 use Rattle.al_grammar.specs.Laws.{Lawful}
 use Rattle.al_grammar.specs.Skim.{skim, skim_token}
 use Rattle.al_grammar.proofs.Many.{many_unfolds, shorter}

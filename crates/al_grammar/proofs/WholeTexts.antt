@@ -81,7 +81,7 @@ module _ (T A : Type 0) (Is : List T → A → Type 0) where
   text_goes_on ts n v h is = no_place ts h.from n v h refl is
 
   -- a shorter front is a front of the longer one
-  front_of : (a b c d : List T) → a ++ b ≡ c ++ d → length a < length c → (x : T) × (others : List T) × (more : List T) × (b ≡ x ∷ others) × (c ≡ a ++ x ∷ more)
+  pub front_of : (a b c d : List T) → a ++ b ≡ c ++ d → length a < length c → (x : T) × (others : List T) × (more : List T) × (b ≡ x ∷ others) × (c ≡ a ++ x ∷ more)
   front_of [] b [] d e l = absurd (omega (arith, l))
   front_of [] b (x ∷ c) d e l = (x, c ++ d, c, e, refl)
   front_of (y ∷ a) b [] d e l = absurd (omega (arith, l))

@@ -1,18 +1,17 @@
 -- The readers of spec files are lawful.
-use Rattle.std.proofs.Common.{◌≡◌, ℕ, List, [], ◌∷◌, ◌++◌, Option, Some, None, refl}
-use Rattle.al_grammar.specs.Rules.{Shape, Rule, leaf, optional, many}
+use Rattle.std.proofs.Common.{[], ◌∷◌, Some, refl}
+use Rattle.al_grammar.specs.Rules.{optional, many}
 use Rattle.al_grammar.specs.Laws.{Lawful}
 use Rattle.al_grammar.proofs.Leaf.{lawful_leaf}
 use Rattle.al_grammar.proofs.Pair.{lawful_pair}
 use Rattle.al_grammar.proofs.Choices.{lawful_optional}
 use Rattle.al_grammar.proofs.Many.{lawful_many}
 use Rattle.al_spec.specs.declared.kinds.Word.TheVariants as words
-use Rattle.al_spec.specs.declared.kinds.Kind.{Kind}
 use Rattle.al_spec.specs.declared.kinds.Kind.TheVariants as kinds
 use Rattle.al_spec.specs.declared.kinds.Lexeme.{Lexeme}
 use Rattle.al_spec.specs.declared.kinds.Lexeme.TheVariants as lexemes
 use Rattle.al_spec.specs.declared.kinds.Token.{Token}
-use Rattle.al_spec.specs.Grammar.{kind_of, number, name_in, text_in, word, name, block, block_after, step, steps, session_end, session_parts, session_of, session, sessions, permutation, bodies, late, file, file_of, after_shape, step_shape, steps_shape, ends_shape, begins_shape, session_shape, sessions_shape, permutation_shape, bodies_shape, late_shape, step_of, StepText, SessionText, File}
+use Rattle.al_spec.specs.Grammar.{kind_of, number, name_in, text_in, word, name, block, block_after, step, steps, session_end, session_parts, session_of, session, sessions, permutation, bodies, late, file, file_of, step_shape, session_shape, permutation_shape, step_of}
 
 abbrev token_of : Lexeme → Token
 token_of l = record { lexeme = l; start = 0 }

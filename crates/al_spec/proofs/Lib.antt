@@ -9,3 +9,4 @@ pub mod Readers
 pub mod Syntax
 pub mod Works
 pub mod Kept
+pub mod Answer

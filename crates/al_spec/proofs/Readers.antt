@@ -1,10 +1,10 @@
 -- What the readers of spec files leave, production by production.
-use Rattle.std.proofs.Common.{◌≡◌, ℕ, Bool, true, false, List, [], ◌∷◌, length, Option, Some, None, Result, Ok, Err, refl, sym, ap, ◌∙◌}
-use Rattle.al_grammar.specs.Kinds.{among, starts}
-use Rattle.al_grammar.specs.Rules.{Rule, pair, optional, many}
+use Rattle.std.proofs.Common.{◌≡◌, ℕ, true, List, [], ◌∷◌, Some, Result, Ok, Err, refl, ◌∙◌}
+use Rattle.al_grammar.specs.Kinds.{among}
+use Rattle.al_grammar.specs.Rules.{pair, optional, many}
 use Rattle.al_grammar.specs.Skim.{skim, skim_token}
 use Rattle.al_grammar.proofs.FirstTokens.{clash}
-use Rattle.al_grammar.proofs.Skims.{skim_on, skim_off, skim_there, skim_left_out, skim_more, skim_fault, skim_none, skim_leaf}
+use Rattle.al_grammar.proofs.Skims.{skim_on, skim_off, skim_leaf}
 use Rattle.al_spec.specs.declared.kinds.Word.TheVariants as words
 use Rattle.al_spec.specs.declared.kinds.Kind.{Kind}
 use Rattle.al_spec.specs.declared.kinds.Kind.TheVariants as kinds

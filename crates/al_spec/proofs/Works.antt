@@ -1,5 +1,5 @@
 -- Work, by blocks and by texts.
-use Rattle.std.proofs.Common.{◌≡◌, ℕ, ◌+◌, zero, suc, List, [], ◌∷◌, ◌++◌, take, get_or, length, ◌<◌, refl, sym, ap, ◌∙◌, ◌≤◌, Bool, arith}
+use Rattle.std.proofs.Common.{◌≡◌, ℕ, ◌+◌, zero, suc, List, [], ◌∷◌, ◌++◌, get_or, length, refl, sym, ◌∙◌, ◌≤◌, Bool, arith}
 use Rattle.std.specs.Prelude.{◌==◌, ◌≢◌, if◌then◌else◌, map}
 use Rattle.std.proofs.lemmas.Bool.{ne_eqb}
 use Rattle.al_spec.specs.Notes.{semicolons, work_of, work_at}

@@ -1,7 +1,6 @@
 -- The grammar of spec files, over their tokens.
 use Rattle.std.specs.Prelude.{ℕ, List, [], ◌∷◌, Option, Some, None}
-use Rattle.al_grammar.specs.Rules.{Shape, Rule, leaf, leaf_shape, pair, both, mapped, optional, many, at_most_once}
-use Rattle.al_spec.specs.declared.kinds.Word.{Word}
+use Rattle.al_grammar.specs.Rules.{Shape, Rule, leaf, leaf_shape, pair, both, optional, many, at_most_once}
 use Rattle.al_spec.specs.declared.kinds.Word.TheVariants as words
 use Rattle.al_spec.specs.declared.kinds.Kind.{Kind}
 use Rattle.al_spec.specs.declared.kinds.Kind.TheVariants as kinds
@@ -11,7 +10,6 @@ use Rattle.al_spec.specs.declared.kinds.Token.{Token}
 
 infixr 20 ◌▸◌
 infixr 20 ◌&◌
-
 -- the kind of a token: what is open is read as what it would be, and the end behind it is taken by no rule
 abbrev pub kind : Lexeme → Kind
 kind (lexemes.Word words.Setup) = kinds.Setup

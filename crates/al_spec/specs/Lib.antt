@@ -3,3 +3,4 @@ pub mod Tokens
 pub mod Grammar
 pub mod Notes
 pub mod Indexed
+pub mod Files

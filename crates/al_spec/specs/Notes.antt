@@ -1,5 +1,5 @@
 -- What the tokens of a spec file say one after another, and which of them breaks a rule beside the grammar.
-use Rattle.std.specs.Prelude.{◌≡◌, ℕ, zero, suc, ◌+◌, Bool, true, false, ◌&&◌, ◌==◌, nat_lt, List, [], ◌∷◌, ◌++◌, length, map, sum, Option, Some, None, is_some, Result, Ok, Err, bytes_eq, if◌then◌else◌}
+use Rattle.std.specs.Prelude.{ℕ, zero, suc, ◌+◌, Bool, true, false, ◌&&◌, ◌==◌, nat_lt, List, [], ◌∷◌, ◌++◌, length, Option, Some, None, Result, Ok, Err, bytes_eq, if◌then◌else◌}
 use Rattle.al_spec.specs.declared.kinds.Word.{Word}
 use Rattle.al_spec.specs.declared.kinds.Word.TheVariants as words
 use Rattle.al_spec.specs.declared.kinds.Lexeme.{Lexeme}
@@ -10,7 +10,6 @@ use Rattle.al_spec.specs.declared.spec.Part.TheVariants as parts
 use Rattle.al_spec.specs.declared.spec.Block.{Block}
 use Rattle.al_spec.specs.declared.spec.SpecFault.{SpecFault}
 use Rattle.al_spec.specs.declared.spec.SpecFault.TheVariants as faults
-use Rattle.al_spec.specs.declared.spec.SpecLimit.{SpecLimit}
 use Rattle.al_spec.specs.declared.spec.SpecLimit.TheVariants as limits
 use Rattle.al_spec.specs.declared.notes.Noted.{Noted}
 

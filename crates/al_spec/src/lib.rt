@@ -4,8 +4,10 @@
 mod bytes;
 mod kinds;
 mod lex;
-mod parse;
 mod notes;
+mod parse;
+mod read;
 mod spec;
 
+pub use read::read_spec;
 pub use spec::{Block, BlockList, Part, PermutationList, Spec, SpecFault, SpecLimit};

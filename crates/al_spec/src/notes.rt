@@ -58,7 +58,10 @@ fn within(work: u64, more: u64) -> Option<u64>
 }
 
 /// The permutations with the last one.
-pub fn closed(permutations: PermutationList, current: Option<IdList>) -> Result<PermutationList, NoMemory>
+pub fn closed(
+    permutations: PermutationList,
+    current: Option<IdList>,
+) -> Result<PermutationList, NoMemory>
     ensures { IfOk result (λ all. all ≡ permutations ++ begun_ones current) }
 {
     match current {
@@ -71,7 +74,12 @@ pub fn closed(permutations: PermutationList, current: Option<IdList>) -> Result<
     }
 }
 
-fn noted_permutation(alloc: Global, noted: Noted, index: &Index, at: u32) -> Result<Noted, Cant<SpecFault>>
+fn noted_permutation(
+    alloc: Global,
+    noted: Noted,
+    index: &Index,
+    at: u32,
+) -> Result<Noted, Cant<SpecFault>>
     requires { Indexed index.now noted.blocks }
     ensures gives { GivesUnlessNoMemory result (note_permutation at noted) }
     ensures blocks { IfOk result (λ more. more.blocks ≡ noted.blocks) }
@@ -111,7 +119,12 @@ fn noted_permutation(alloc: Global, noted: Noted, index: &Index, at: u32) -> Res
     }
 }
 
-fn noted_session(alloc: Global, noted: Noted, name: &Name, at: u32) -> Result<Noted, Cant<SpecFault>>
+fn noted_session(
+    alloc: Global,
+    noted: Noted,
+    name: &Name,
+    at: u32,
+) -> Result<Noted, Cant<SpecFault>>
     ensures gives { GivesUnlessNoMemory result (note_session name.now at noted) }
     ensures blocks { IfOk result (λ more. more.blocks ≡ noted.blocks) }
 {
@@ -133,7 +146,13 @@ fn numbered(index: &Index, name: &Name) -> Option<u32>
     index.numbers.get(name.as_str()).copied()
 }
 
-fn noted_step(alloc: Global, noted: Noted, index: &Index, name: &Name, at: u32) -> Result<Noted, Cant<SpecFault>>
+fn noted_step(
+    alloc: Global,
+    noted: Noted,
+    index: &Index,
+    name: &Name,
+    at: u32,
+) -> Result<Noted, Cant<SpecFault>>
     requires { Indexed index.now noted.blocks }
     ensures gives { GivesUnlessNoMemory result (note_step (number_of name.now noted.blocks) name.now at noted) }
     ensures blocks { IfOk result (λ more. more.blocks ≡ noted.blocks) }
@@ -178,7 +197,13 @@ fn stepped(alloc: Global, current: Option<IdList>, number: u32) -> Result<IdList
     Ok(steps)
 }
 
-fn noted_found(alloc: Global, noted: Noted, index: &Index, number: u32, at: u32) -> Result<Noted, Cant<SpecFault>>
+fn noted_found(
+    alloc: Global,
+    noted: Noted,
+    index: &Index,
+    number: u32,
+    at: u32,
+) -> Result<Noted, Cant<SpecFault>>
     requires { Indexed index.now noted.blocks }
     ensures gives { GivesUnlessNoMemory result (note_named (Some number) at noted) }
     ensures blocks { IfOk result (λ more. more.blocks ≡ noted.blocks) }
@@ -203,7 +228,13 @@ fn noted_found(alloc: Global, noted: Noted, index: &Index, number: u32, at: u32)
     }
 }
 
-fn noted_named(alloc: Global, noted: Noted, index: &Index, name: &Name, at: u32) -> Result<Noted, Cant<SpecFault>>
+fn noted_named(
+    alloc: Global,
+    noted: Noted,
+    index: &Index,
+    name: &Name,
+    at: u32,
+) -> Result<Noted, Cant<SpecFault>>
     requires { Indexed index.now noted.blocks }
     ensures gives { GivesUnlessNoMemory result (note_named (number_of name.now noted.blocks) at noted) }
     ensures blocks { IfOk result (λ more. more.blocks ≡ noted.blocks) }
@@ -214,7 +245,13 @@ fn noted_named(alloc: Global, noted: Noted, index: &Index, name: &Name, at: u32)
     }
 }
 
-fn noted_name(alloc: Global, noted: Noted, index: &Index, name: &Name, at: u32) -> Result<Noted, Cant<SpecFault>>
+fn noted_name(
+    alloc: Global,
+    noted: Noted,
+    index: &Index,
+    name: &Name,
+    at: u32,
+) -> Result<Noted, Cant<SpecFault>>
     requires { Indexed index.now noted.blocks }
     ensures gives { GivesUnlessNoMemory result (note_name noted.word name.now at noted) }
     ensures blocks { IfOk result (λ more. more.blocks ≡ noted.blocks) }
@@ -227,7 +264,13 @@ fn noted_name(alloc: Global, noted: Noted, index: &Index, name: &Name, at: u32) 
     }
 }
 
-fn noted_word(alloc: Global, noted: Noted, index: &Index, word: Word, at: u32) -> Result<Noted, Cant<SpecFault>>
+fn noted_word(
+    alloc: Global,
+    noted: Noted,
+    index: &Index,
+    word: Word,
+    at: u32,
+) -> Result<Noted, Cant<SpecFault>>
     requires { Indexed index.now noted.blocks }
     ensures gives { GivesUnlessNoMemory result (note_word word at noted) }
     ensures blocks { IfOk result (λ more. more.blocks ≡ noted.blocks) }
@@ -281,7 +324,9 @@ fn block_name(alloc: Global, part: Part, name: &Name) -> Result<Name, NoMemory>
 {
     match part {
         Part::Step => name.copied(alloc),
-        Part::Setup | Part::SessionSetup | Part::SessionTeardown | Part::Teardown => Txt::new(alloc, ""),
+        Part::Setup | Part::SessionSetup | Part::SessionTeardown | Part::Teardown => Txt::new(
+            alloc, "",
+        ),
     }
 }
 
@@ -295,7 +340,12 @@ fn is_step(part: Part) -> bool
 }
 
 // Keeps the number of a step, where no step before has its name.
-fn keep_number(alloc: Global, numbers: &mut HashMap<String, u32>, name: &Name, number: u32) -> Result<(), NoMemory>
+fn keep_number(
+    alloc: Global,
+    numbers: &mut HashMap<String, u32>,
+    name: &Name,
+    number: u32,
+) -> Result<(), NoMemory>
     ensures { OnOk result ((asked : List ℕ) → get_by_text numbers.new asked ≡ or_else (get_by_text numbers.old asked) (bytes_eq asked name.now) number) }
 {
     if numbers.contains_key(name.as_str()) {
@@ -305,7 +355,13 @@ fn keep_number(alloc: Global, numbers: &mut HashMap<String, u32>, name: &Name, n
     Ok(())
 }
 
-fn keep_step(alloc: Global, index: &mut Index, part: Part, name: &Name, number: u32) -> Result<(), NoMemory>
+fn keep_step(
+    alloc: Global,
+    index: &mut Index,
+    part: Part,
+    name: &Name,
+    number: u32,
+) -> Result<(), NoMemory>
     ensures numbers { OnOk result ((asked : List ℕ) → get_by_text index.new.numbers asked ≡ or_else (get_by_text index.old.numbers asked) (is_step part && bytes_eq asked name.now) number) }
     ensures works { index.new.works ≡ index.old.works }
     ensures base { index.new.base ≡ index.old.base }
@@ -343,7 +399,13 @@ fn keep(alloc: Global, index: &mut Index, block: &Block, number: u32) -> Result<
     Ok(())
 }
 
-fn noted_block(alloc: Global, noted: Noted, index: &mut Index, text: &Txt, at: u32) -> Result<Noted, Cant<SpecFault>>
+fn noted_block(
+    alloc: Global,
+    noted: Noted,
+    index: &mut Index,
+    text: &Txt,
+    at: u32,
+) -> Result<Noted, Cant<SpecFault>>
     requires { Indexed index.old noted.blocks }
     ensures gives { GivesUnlessNoMemory result (note_block text.now at noted) }
     ensures indexed { IfOk result (λ more. Indexed index.new more.blocks) }
@@ -372,7 +434,12 @@ fn noted_block(alloc: Global, noted: Noted, index: &mut Index, text: &Txt, at: u
     Ok(noted)
 }
 
-fn note_one(alloc: Global, noted: Noted, index: &mut Index, token: &Token) -> Result<Noted, Cant<SpecFault>>
+fn note_one(
+    alloc: Global,
+    noted: Noted,
+    index: &mut Index,
+    token: &Token,
+) -> Result<Noted, Cant<SpecFault>>
     requires { Indexed index.old noted.blocks }
     ensures gives { GivesUnlessNoMemory result (note noted token.now) }
     ensures indexed { IfOk result (λ more. Indexed index.new more.blocks) }
@@ -381,7 +448,8 @@ fn note_one(alloc: Global, noted: Noted, index: &mut Index, token: &Token) -> Re
         Lexeme::Word(word) => noted_word(alloc, noted, index, *word, token.start),
         Lexeme::Name(name) => noted_name(alloc, noted, index, name, token.start),
         Lexeme::Block(text) => noted_block(alloc, noted, index, text, token.start),
-        Lexeme::OpenName | Lexeme::OpenBlock | Lexeme::Unclosed | Lexeme::Paren | Lexeme::Stray => Ok(noted),
+        Lexeme::OpenName | Lexeme::OpenBlock | Lexeme::Unclosed | Lexeme::Paren | Lexeme::Stray =>
+            Ok(noted),
     }
 }
 

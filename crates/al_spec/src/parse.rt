@@ -1,4 +1,4 @@
-ghost use Rattle.std.specs.Prelude.{ℕ, false, ◌≡◌, List, [], ◌∷◌, length, Ok, Err, MatchResult, MatchOption};
+ghost use Rattle.std.specs.Prelude.{ℕ, false, ◌≡◌, List, [], ◌∷◌, length, Ok, Err, MatchResult, MatchOption, IfSome, ◌≤◌};
 ghost use Rattle.al_grammar.specs.Kinds.{starts};
 ghost use Rattle.al_grammar.specs.Rules.{many, optional};
 ghost use Rattle.al_grammar.specs.Skim.{skim, skim_token};
@@ -206,7 +206,8 @@ fn file(tokens: &[Token]) -> Result<&[Token], usize>
 /// How many tokens are left from the first that can't stand where it stands, none where they end too early; nothing
 /// where the tokens are a spec file's.
 pub fn syntax(tokens: &[Token]) -> Option<usize>
-    ensures { MatchOption result ((v : File) × (whole_of (file.reads tokens.now) ≡ Ok v)) (λ left. whole_of (file.reads tokens.now) ≡ Err left) }
+    ensures bound { IfSome result (λ left. left ≤ length tokens.now) }
+    ensures whole { MatchOption result ((v : File) × (whole_of (file.reads tokens.now) ≡ Ok v)) (λ left. whole_of (file.reads tokens.now) ≡ Err left) }
 {
     match file(tokens) {
         Err(left) => Some(left),

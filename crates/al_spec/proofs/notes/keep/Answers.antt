@@ -1,6 +1,6 @@
-use Rattle.std.proofs.Common.{◌≡◌, ◌+◌, ℕ, List, ◌∷◌, [], ◌++◌, sym, ap, ◌∙◌}
+use Rattle.std.proofs.Common.{◌+◌, ℕ, List, ◌∷◌, [], ◌++◌, ap, ◌∙◌}
 use Rattle.std.specs.HashMap.{get_by_text}
-use Rattle.al_spec.specs.Notes.{semicolons, fixed, or_else}
+use Rattle.al_spec.specs.Notes.{semicolons, fixed}
 use Rattle.al_spec.proofs.Kept.{indexed_more}
 use Rattle.al_spec.proofs.notes.keep.Goals as goal
 

@@ -1,6 +1,4 @@
-use Rattle.std.proofs.Common.{◌≡◌, ◌≤◌, ◌<◌, ℕ, List, length, get_or, sym, ap, ◌∙◌, subst}
-use Rattle.std.specs.Prelude.{map}
-use Rattle.al_spec.specs.Notes.{work_of}
+use Rattle.std.proofs.Common.{◌≡◌, ◌≤◌, ℕ, List, length, get_or, ◌∙◌, subst}
 use Rattle.al_spec.proofs.Works.{no_work, some_work}
 use Rattle.al_spec.proofs.notes.work_of_number.Goals as goal
 
