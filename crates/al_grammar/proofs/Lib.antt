@@ -5,3 +5,4 @@ pub mod Choices
 pub mod Many
 pub mod WholeTexts
 pub mod Skims
+pub mod Every

@@ -18,20 +18,11 @@ use Rattle.al_spec.specs.Notes.{note, note_all, nothing_noted, and_note}
 use Rattle.al_spec.specs.Files.{spec_noted, IsSpecFile, IsFault, not_utf8, rule, syntax, syntax_fault, spec_or, fault_or, answer_by, answer, IfWhy}
 use Rattle.al_spec.proofs.FileLaws.{lawful_file}
 use Rattle.al_spec.proofs.Unique.{only_tokens}
+use Rattle.al_spec.proofs.Known.{known_file}
+use Rattle.al_spec.proofs.Values.{spec_is}
+use Rattle.al_spec.proofs.NoteParts.{notes_append}
 
 -- ---- notes on a list in two parts
-
-notes_first : (n : Noted) (b : List Token) (r s : Result Noted SpecFault) → r ≡ s → and_note r (λ m. note_all m b) ≡ and_note s (λ m. note_all m b)
-notes_first n b r s e = ap (λ (x : Result Noted SpecFault). and_note x (λ m. note_all m b)) e
-
-and_again : (r : Result Noted SpecFault) (a b : List Token) → ((m : Noted) → note_all m (a ++ b) ≡ and_note (note_all m a) (λ k. note_all k b))
-    → and_note r (λ m. note_all m (a ++ b)) ≡ and_note (and_note r (λ m. note_all m a)) (λ k. note_all k b)
-and_again (Ok m) a b ih = ih m
-and_again (Err f) a b ih = refl
-
-pub notes_append : (n : Noted) (a b : List Token) → note_all n (a ++ b) ≡ and_note (note_all n a) (λ m. note_all m b)
-notes_append n [] b = refl
-notes_append n (t ∷ a) b = and_again (note n t) a b (λ m. notes_append m a b)
 
 -- a fault in a part is a fault of the whole
 notes_fault : (n m : Noted) (before after : List Token) (t : Token) (f : SpecFault) → note_all n before ≡ Ok m → note m t ≡ Err f → note_all n (before ++ t ∷ after) ≡ Err f
@@ -96,7 +87,7 @@ module _ (bytes : List ℕ) (utf8 : IsUtf8 bytes) (ts : List Token) (are : AreTo
   broken_text v f is b = rule f ts b.before b.token b.after b.after v b.noted utf8 are b.split (subst (λ (l : List Token). file.Is l v) b.split is) b.no_fault b.fault
 
   spec_found : (v : File) (s : Spec) → file.Is ts v → (r : Result Noted SpecFault) → note_all nothing_noted ts ≡ r → spec_or r ≡ Ok s → IsSpecFile bytes s
-  spec_found v s is (Ok n) h e = record { utf8 = utf8; tokens = ts; tokens_are = are; value = v; is = is; noted = n; says = h; means = let same : spec_noted n ≡ s = cc in sym same }
+  spec_found v s is (Ok n) h e = record { utf8 = utf8; tokens = ts; tokens_are = are; value = v; is = is; noted = n; says = h; means = let same : spec_noted n ≡ s = cc in sym same ∙ spec_is ts v n is (known_file bytes ts v are is) h }
   spec_found v s is (Err f) h e = absurd cc
 
   rule_found : (v : File) (f : SpecFault) → file.Is ts v → (r : Result Noted SpecFault) → note_all nothing_noted ts ≡ r → spec_or r ≡ Err f → IsFault bytes f
@@ -145,7 +136,8 @@ module _ (bytes : List ℕ) (utf8 : IsUtf8 bytes) (ts : List Token) (are : AreTo
       let same : h.tokens ≡ ts = only_tokens bytes h.tokens ts h.tokens_are are in
       let is : file.Is ts h.value = subst (λ (l : List Token). file.Is l h.value) same h.is in
       let says : note_all nothing_noted ts ≡ Ok h.noted = subst (λ (l : List Token). note_all nothing_noted l ≡ Ok h.noted) same h.says in
-      answer_is (Ok h.value) (whole_only Token File file_shape kind_of file lawful_file ts h.value is) ∙ ap spec_or says ∙ ap (λ (x : Spec). Ok x) (sym h.means)
+      let value : spec_noted h.noted ≡ s = spec_is ts h.value h.noted is (known_file bytes ts h.value are is) says ∙ sym h.means in
+      answer_is (Ok h.value) (whole_only Token File file_shape kind_of file lawful_file ts h.value is) ∙ ap spec_or says ∙ ap (λ (x : Spec). Ok x) value
 
 -- the place of a stop lies behind what begins a text
 stop_behind : (ts : List Token) (n : ℕ) (h : StopsAt file.Is ts n) (before after more : List Token) (t : Token) (v : File) → ts ≡ before ++ t ∷ after → file.Is (before ++ t ∷ more) v → length before < length h.before

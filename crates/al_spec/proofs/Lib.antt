@@ -9,4 +9,7 @@ pub mod Readers
 pub mod Syntax
 pub mod Works
 pub mod Kept
+pub mod NoteParts
+pub mod Values
 pub mod Answer
+pub mod Known

@@ -27,6 +27,10 @@ number_from i name (b ∷ bs) = if is_step b.part && bytes_eq name b.name then S
 abbrev pub number_of : List ℕ → List Block → Option ℕ
 number_of name blocks = number_from 0 name blocks
 
+abbrev pub number_or : Option ℕ → ℕ
+number_or (Some i) = i
+number_or None = 0
+
 -- what stands there, or else a number where a test holds
 abbrev pub or_else : Option ℕ → Bool → ℕ → Option ℕ
 or_else (Some i) test number = Some i
