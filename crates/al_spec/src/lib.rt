@@ -8,6 +8,8 @@ mod notes;
 mod parse;
 mod read;
 mod spec;
+#[cfg(test)]
+mod tests;
 
 pub use read::read_spec;
 pub use spec::{Block, BlockList, Part, PermutationList, Spec, SpecFault, SpecLimit};
