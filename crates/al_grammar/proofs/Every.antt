@@ -1,5 +1,5 @@
 -- What holds of each token of a text.
-use Rattle.std.proofs.Common.{◌≡◌, ℕ, true, List, [], ◌∷◌, ◌++◌, Option, refl, sym, subst}
+use Rattle.std.proofs.Common.{◌≡◌, ℕ, true, List, [], ◌∷◌, ◌++◌, Option, sym, subst}
 use Rattle.al_grammar.specs.Kinds.{among}
 use Rattle.al_grammar.specs.Rules.{IsLeaf, IsBoth, IsOptional, left_out, there, IsMany, none, one_more}
 

@@ -2,7 +2,7 @@
 use Rattle.std.proofs.Common.{◌≡◌, ℕ, Bool, true, false, List, [], ◌∷◌, ◌++◌, refl, sym, subst}
 use Rattle.std.specs.Prelude.{◌||◌, ◌&&◌, not, ◌==◌}
 use Rattle.std.proofs.lemmas.Bool.{eqb-true}
-use Rattle.al_grammar.specs.Kinds.{among, apart, starts}
+use Rattle.al_grammar.specs.Kinds.{among, apart, within, starts}
 
 pub clash : {b : Bool} → b ≡ true → b ≡ false → ⊥
 clash t f = cc
@@ -44,6 +44,21 @@ not_in_first n ns ms a e = by_test (among n ns) refl
   where
     by_test : (b : Bool) → among n ns ≡ b → among n ns ≡ false
     by_test true h = absurd (clash e (not_in_both n ns ms a h))
+    by_test false h = h
+
+-- a kind of a list that stands within another
+pub in_within : (n : ℕ) (ns ms : List ℕ) → within ns ms ≡ true → among n ns ≡ true → among n ms ≡ true
+in_within n [] ms w e = absurd (clash e refl)
+in_within n (m ∷ ns) ms w e =
+    or_cases (n == m) (among n ns) _ e
+    (λ h. let same : n ≡ m = eqb-true n m h in subst (λ (k : ℕ). among k ms ≡ true) (sym same) (and_left _ _ w))
+    (λ h. in_within n ns ms (and_right _ _ w) h)
+
+pub not_within : (n : ℕ) (ns ms : List ℕ) → within ns ms ≡ true → among n ms ≡ false → among n ns ≡ false
+not_within n ns ms w e = by_test (among n ns) refl
+  where
+    by_test : (b : Bool) → among n ns ≡ b → among n ns ≡ false
+    by_test true h = absurd (clash (in_within n ns ms w h) e)
     by_test false h = h
 
 -- a kind in neither of two lists

@@ -6,3 +6,4 @@ pub mod Many
 pub mod WholeTexts
 pub mod Skims
 pub mod Every
+pub mod More

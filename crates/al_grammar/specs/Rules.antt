@@ -60,19 +60,32 @@ both s u = record {
   after = if u.empty then s.after ++ u.after else u.after;
 }
 
--- Tokens of the one, and after them tokens of the other.
-pub record IsBoth {T A B C : Type 0} (Is : List T → A → Type 0) (IsNext : List T → B → Type 0) (join : A → B → C) (text : List T) (v : C) : Type 0 where
+-- Tokens of the one, and after them tokens of the other, which may depend on the first's value.
+pub record IsThen {T A B C : Type 0} (Is : List T → A → Type 0) (IsNext : A → List T → B → Type 0) (join : A → B → C) (text : List T) (v : C) : Type 0 where
   pub front : List T
   pub back : List T
   pub first : A
   pub second : B
   pub split : text ≡ front ++ back
   pub first_is : Is front first
-  pub second_is : IsNext back second
+  pub second_is : IsNext first back second
   pub value_is : v ≡ join first second
 
+abbrev pub then_reads : {T A B C : Type 0} → (A → B → C) → (List T → Step T A) → (A → List T → Step T B) → List T → Step T C
+then_reads join first next ts = and_then (first ts) (λ x mid. and_then (next x mid) (λ y rest. read (join x y) rest))
+
+abbrev pub then_rule : {T A B C : Type 0} {s u : Shape} → (A → B → C) → Rule T s A → (A → Rule T u B) → Rule T (both s u) C
+then_rule join p q = record {
+  Is = IsThen p.Is (λ x. (q x).Is) join;
+  reads = then_reads join p.reads (λ x. (q x).reads);
+}
+
+-- The same where the other doesn't depend on it.
+abbrev pub IsBoth : {T A B C : Type 0} → (List T → A → Type 0) → (List T → B → Type 0) → (A → B → C) → List T → C → Type 0
+IsBoth Is IsNext join = IsThen Is (λ x. IsNext) join
+
 abbrev pub pair_reads : {T A B C : Type 0} → (A → B → C) → (List T → Step T A) → (List T → Step T B) → List T → Step T C
-pair_reads join first next ts = and_then (first ts) (λ x mid. and_then (next mid) (λ y rest. read (join x y) rest))
+pair_reads join first next ts = then_reads join first (λ x. next) ts
 
 abbrev pub pair : {T A B C : Type 0} {s u : Shape} → (A → B → C) → Rule T s A → Rule T u B → Rule T (both s u) C
 pair join p q = record {
@@ -138,3 +151,20 @@ many {s = s} kind p = record {
   Is = IsMany p.Is;
   reads = λ ts. many_reads kind s.first p.reads (length ts) ts;
 }
+
+-- ---- a left fold: a rule, and any number of times an operator and the rule again
+
+abbrev pub folded : {A O : Type 0} → (A → O → A → A) → A → List (O × A) → A
+folded f x [] = x
+folded f x (y ∷ ys) = folded f (f x y.0 y.1) ys
+
+abbrev pub chain_shape : Shape → Shape → Shape
+chain_shape s u = both s (at_most_once (both u s))
+
+abbrev pub chain : {T A O : Type 0} {s u : Shape} → (T → ℕ) → (A → O → A → A) → Rule T s A → Rule T u O → Rule T (chain_shape s u) A
+chain kind f p q = pair (folded f) p (many kind (pair (λ o x. (o, x)) q p))
+
+-- ---- the same texts, under a shape that says less
+
+abbrev pub widen : {T A : Type 0} {s : Shape} → (w : Shape) → Rule T s A → Rule T w A
+widen w p = record { Is = p.Is; reads = p.reads }
