@@ -1,0 +1,23 @@
+# What the scripts that time al_bench have in common. They source this file at the top of the repository, with `runs` set:
+# how often each run is timed. The times are those of the processor, which other programs that run at the same time disturb least.
+set -o pipefail
+program=crates/al_bench/out/al_bench
+[[ $runs =~ ^[1-9][0-9]*$ ]] || { echo "how often? a number from 1 on" >&2; exit 1; }
+if [ ! -x "$program" ]; then
+  echo "no $program: run 'rt run -- queue queued 4 10' in crates/al_bench once" >&2
+  exit 1
+fi
+
+# The nanoseconds of a run of al_bench on these words, as the median of some.
+median() {
+  local TIMEFORMAT='%3U %3S'
+  for _ in $(seq "$runs"); do
+    { time "$program" "$@" >/dev/null || exit 1; } 2>&1
+  done | awk '{ printf "%.0f\n", ($1 + $2) * 1000000000 }' | sort -n | awk '{ a[NR] = $1 } END { print a[int((NR + 1) / 2)] }'
+}
+
+# per MORE LESS COUNT: the nanoseconds for each of so many, as the difference of two runs.
+per() { awk -v more="$1" -v less="$2" -v count="$3" 'BEGIN { printf "%.1f", (more - less) / count }'; }
+
+# growth BEFORE AFTER: how many times as much; - where nothing stands before.
+growth() { awk -v a="${1:-0}" -v b="$2" 'BEGIN { if (a > 0) printf "%.2f", b / a; else printf "-" }'; }
