@@ -42,7 +42,7 @@ fn go_on(alloc: Global, engine: &mut Engine, turns: u32) -> Result<(), NoMemory>
     requires of_session { option_map (λ b. b.session) (slice_get engine.old.scripts.blocks 1) ≡ Some 0 }
     requires not_closed { closed engine.old.past 0 ≡ false }
 {
-    for turn in 0..turns {
+    for _ in 0..turns {
         run_block(alloc, engine, 1)?;
     }
     Ok(())
