@@ -1,17 +1,26 @@
-//! Values of SQL, and the small types that every crate names: texts, lists, and the error of a call that finds no
+//! Values of SQL with their kinds and conversions, and the small types that every crate names: texts, lists, and the error of a call that finds no
 //! memory.
 #![tactic(auto)]
 
 mod cant;
+mod convert;
 mod copied;
+mod days;
+mod kinds;
 mod listed;
+mod order;
+mod reading;
 mod scalar;
 mod text;
 
 pub use cant::{Cant, NoMemory};
+pub use convert::{assign, cast};
 pub use copied::Copied;
+pub use kinds::{CastFault, Group, Kind, Tri};
 pub use listed::ListOf;
-pub use scalar::Value;
+pub use order::compare;
+pub use reading::read;
+pub use scalar::{Value, print};
 pub use text::Txt;
 
 /// A name of a table, a column, a session or a step.

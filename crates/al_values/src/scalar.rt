@@ -1,7 +1,7 @@
-ghost use Rattle.std.specs.Prelude.{◌≡◌, Some};
+ghost use Rattle.std.specs.Prelude.{◌≡◌, Some, IfOk};
 ghost use Rattle.al_values.specs.Printed.{printed};
 
-use crate::{Copied, NoMemory};
+use crate::{Copied, NoMemory, Txt, days};
 use std::alloc::Global;
 use std::fmt;
 
@@ -10,27 +10,47 @@ use std::fmt;
 pub enum Value {
     /// No value.
     Null,
+    /// A boolean.
+    Bool(bool),
     /// An integer of any of the integer kinds.
     Int(i64),
+    /// A text, of whichever kind.
+    Text(Txt),
+    /// A day: how many days it lies after 1 January 1970.
+    Day(i32),
 }
 
 impl Copied for Value {
-    fn copied(&self, _alloc: Global) -> Result<Value, NoMemory> {
+    fn copied(&self, alloc: Global) -> Result<Value, NoMemory> {
         Ok(match self {
             Value::Null => Value::Null,
+            Value::Bool(truth) => Value::Bool(*truth),
             Value::Int(number) => Value::Int(*number),
+            Value::Text(text) => Value::Text(text.copied(alloc)?),
+            Value::Day(day) => Value::Day(*day),
         })
     }
 }
 
-/// As in a report: an integer in decimal, Null as nothing.
+/// As in a report: an integer in decimal, a boolean as `t` or `f`, a text as it is, a day as YYYY-MM-DD, Null as
+/// nothing. A day outside the years 1 to 9999, which no statement gives, is printed by its number.
 impl fmt::Display for Value {
     ghost output = { λ value. Some (printed value) };
 
     fn fmt<W: fmt::Write>(&self, f: &mut fmt::Formatter<W>) -> fmt::Result {
         match self {
             Value::Null => Ok(()),
+            Value::Bool(truth) => f.write_str(if *truth { "t" } else { "f" }),
             Value::Int(number) => write!(f, "{number}"),
+            Value::Text(text) => write!(f, "{text}"),
+            Value::Day(day) => write!(f, "{}", days::Shown(*day)),
         }
     }
+}
+
+/// A value as a report prints it.
+pub fn print(alloc: Global, v: &Value) -> Result<Txt, NoMemory>
+    ensures { IfOk result (λ text. text ≡ printed v.now) }
+{
+    Ok(Txt::from_string(format!(in alloc; "{v}")?))
 }
