@@ -1,0 +1,4 @@
+pub mod Columns
+pub mod Kinds
+pub mod Then
+pub mod Typing

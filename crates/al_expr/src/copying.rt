@@ -16,19 +16,16 @@ fn copy_of(alloc: Global, expr: &Expr) -> Result<Expr, NoMemory>
     ensures { IfOk result (λ copy. copy ≡ expr.now) }
 {
     match expr {
-        Expr::Integer(place, number) => Ok(Expr::Integer(*place, *number)),
-        Expr::Text(place, text) => Ok(Expr::Text(*place, text.copied(alloc)?)),
-        Expr::Truth(place, truth) => Ok(Expr::Truth(*place, *truth)),
-        Expr::Null(place) => Ok(Expr::Null(*place)),
+        Expr::Literal(place, value) => Ok(Expr::Literal(*place, value.copied(alloc)?)),
         Expr::Date(place, text) => Ok(Expr::Date(*place, text.copied(alloc)?)),
         Expr::Column(place, name) => Ok(Expr::Column(*place, name.copied(alloc)?)),
         Expr::Chain(first, links) => Ok(Expr::Chain(
             boxed_copy(alloc, first.get())?,
             copy_of_links(alloc, links.as_slice())?,
         )),
-        Expr::Prefixed(prefixes, operand) => Ok(Expr::Prefixed(
-            Items::from_slice(alloc, prefixes.as_slice())?,
+        Expr::Prefixed(operand, prefixes) => Ok(Expr::Prefixed(
             boxed_copy(alloc, operand.get())?,
+            Items::from_slice(alloc, prefixes.as_slice())?,
         )),
         Expr::Casts(operand, kinds) => Ok(Expr::Casts(
             boxed_copy(alloc, operand.get())?,

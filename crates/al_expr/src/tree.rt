@@ -1,5 +1,4 @@
-use crate::Kind;
-use al_values::{Name, Txt};
+use al_values::{Kind, Name, Txt, Value};
 use sqlite_items::{Boxed, Items};
 
 /// A comparison (the manual, 9.2).
@@ -66,22 +65,16 @@ pub enum Prefix {
 /// Operators that stand in a row are one node, so that the tree is no deeper than the text's brackets and precedences.
 #[derive(Debug, Drop)]
 pub enum Expr {
-    /// An integer, without its sign.
-    Integer(u32, i64),
-    /// A string, which has no kind of its own.
-    Text(u32, Txt),
-    /// TRUE or FALSE.
-    Truth(u32, bool),
-    /// NULL, which has no kind of its own.
-    Null(u32),
+    /// An integer without its sign, TRUE, FALSE, or a string or NULL, which have no kind of their own.
+    Literal(u32, Value),
     /// DATE and a string.
     Date(u32, Txt),
     /// The name of a column.
     Column(u32, Name),
     /// Binary operators in a row, grouped from the left: the first operand, then each operator with its right side.
     Chain(Boxed<Expr>, Items<(u32, Operator, Expr)>),
-    /// NOTs and signs in a row, the outermost first, and their operand.
-    Prefixed(Items<(u32, Prefix)>, Boxed<Expr>),
+    /// NOTs and signs in a row: the operand, then each from the inside.
+    Prefixed(Boxed<Expr>, Items<(u32, Prefix)>),
     /// CAST, or `::` in a row: the operand, then each cast from the inside.
     Casts(Boxed<Expr>, Items<(u32, Kind)>),
     /// IS NULL and IS NOT NULL (true) in a row, from the inside.
