@@ -1,1 +1,3 @@
 pub mod KindNodes
+pub mod NominalNodes
+pub mod ValueNodes

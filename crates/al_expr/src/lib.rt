@@ -1,13 +1,19 @@
 //! Expressions of SQL on the columns of one row: their trees, the kind of each, and its value.
 #![tactic(auto)]
 
+mod arithmetic;
 mod column;
 mod copying;
+mod fault;
+mod held;
 mod kinds;
+mod nominal;
 mod tree;
 mod typing;
+mod values;
 
 pub use column::{Column, ColumnList};
+pub use fault::EvalFault;
 pub use kinds::{TypeFault, Typed};
 pub use tree::{Arithmetic, Comparison, Expr, Operator, Prefix};
 pub use typing::kind_of;
