@@ -12,6 +12,7 @@ use Rattle.al_expr.specs.declared.kinds.Typed.{Typed}
 use Rattle.al_expr.specs.declared.kinds.Typed.TheVariants as types
 use Rattle.al_expr.specs.declared.fault.EvalFault.{EvalFault}
 use Rattle.al_expr.specs.declared.tree.Operator.{Operator}
+use Rattle.al_expr.specs.declared.tree.Operator.TheVariants as operators
 use Rattle.al_expr.specs.declared.tree.Comparison.TheVariants as comparisons
 use Rattle.al_expr.specs.declared.tree.Prefix.{Prefix}
 use Rattle.al_expr.specs.declared.tree.Expr.{Expr}
@@ -71,8 +72,9 @@ side_value kind side = side.1 >>= (λ value. read_in kind side.0 value)
 
 -- `value >= low AND value <= high`
 abbrev pub below_high : Value → Value → Outcome → Outcome
-below_high value (values.Bool false) high = Ok (values.Bool false)
-below_high value above high = high >>= (λ end. Ok (both above (related comparisons.LessOrEqual value end)))
+below_high value above high =
+    if decides operators.And above then Ok above
+    else high >>= (λ end. Ok (both above (related comparisons.LessOrEqual value end)))
 
 abbrev pub between_value : Kind → Side → Side → Side → Outcome
 between_value kind value low high =
@@ -81,8 +83,7 @@ between_value kind value low high =
 
 -- `value = item OR value = item OR ..`, after what the items so far gave
 abbrev pub or_more : Value → Outcome → Outcome
-or_more (values.Bool true) more = Ok (values.Bool true)
-or_more so_far more = more
+or_more so_far more = if decides operators.Or so_far then Ok so_far else more
 
 abbrev pub in_value : Kind → Value → Value → List Side → Outcome
 in_value kind value so_far [] = Ok so_far
@@ -93,8 +94,7 @@ in_value kind value so_far (item ∷ items) =
 
 -- the first value that isn't null
 abbrev pub unless_null : Value → Outcome → Outcome
-unless_null values.Null rest = rest
-unless_null value rest = Ok value
+unless_null value rest = if is_null value then rest else Ok value
 
 abbrev pub coalesce_value : Kind → List Side → Outcome
 coalesce_value kind [] = Ok values.Null

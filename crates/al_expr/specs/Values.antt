@@ -1,6 +1,6 @@
 -- What the operators give on values (manual, 9.1 Logical Operators, 9.2 Comparison, 9.3 Mathematical, 9.4 String and 9.9
 -- Date/Time Functions and Operators). A null among the operands gives Null, but for AND, OR, IS NULL and coalesce.
-use Rattle.std.specs.Prelude.{ℤ, pos, neg_ℤ, ◌+ℤ◌, ◌-ℤ◌, ◌*ℤ◌, Bool, true, false, not, nat_le, if◌then◌else◌, ◌++◌, length, Option, Some, None, Result, Ok, Err, unsigned_abs}
+use Rattle.std.specs.Prelude.{ℕ, ℤ, pos, neg_ℤ, ◌+ℤ◌, ◌-ℤ◌, ◌*ℤ◌, Bool, true, false, not, nat_le, if◌then◌else◌, ◌++◌, length, Option, Some, None, Result, Ok, Err, unsigned_abs}
 use Rattle.std.specs.Int.RustNames.{int_div, int_rem}
 use Rattle.std.specs.Ordering.{int_eq}
 use Rattle.std.specs.declared.cmp.Ordering.{Ordering}
@@ -37,10 +37,14 @@ Outcome = Result Value EvalFault
 
 -- ---- texts, conversions and literals
 
+-- how many bytes a text has; what is no text has none
+abbrev pub text_bytes : Value → ℕ
+text_bytes (values.Text text) = length text
+text_bytes value = 0
+
 -- a text has at most 8,192 bytes
 abbrev pub bounded : Value → Outcome
-bounded (values.Text text) = if nat_le (length text) 8192 then Ok (values.Text text) else Err (faults.TooLong (length text))
-bounded value = Ok value
+bounded value = if nat_le (text_bytes value) 8192 then Ok value else Err (faults.TooLong (text_bytes value))
 
 -- what a conversion gave
 abbrev pub converted : Result Value CastFault → Outcome
@@ -73,6 +77,10 @@ denied value = values.Null
 -- NOT before BETWEEN or IN
 abbrev pub denied_if : Bool → Value → Value
 denied_if negated value = if negated then denied value else value
+
+abbrev pub is_not_text : Value → Bool
+is_not_text (values.Text text) = false
+is_not_text value = true
 
 abbrev pub is_null : Value → Bool
 is_null values.Null = true

@@ -19,7 +19,7 @@ fn fits(kind: Kind, number: i64) -> bool
 }
 
 /// A number of the kind.
-fn in_kind(kind: Kind, number: i64) -> Result<Value, EvalFault>
+pub(crate) fn in_kind(kind: Kind, number: i64) -> Result<Value, EvalFault>
     ensures { result ≡ table.in_kind kind number }
 {
     if fits(kind, number) {

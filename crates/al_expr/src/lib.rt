@@ -8,6 +8,7 @@ mod fault;
 mod held;
 mod kinds;
 mod nominal;
+mod texts;
 mod tree;
 mod typing;
 mod values;
