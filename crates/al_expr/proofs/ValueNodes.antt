@@ -1,8 +1,7 @@
 -- `value_of`, one equation for each variant.
-use Rattle.std.proofs.Common.{◌≡◌, ℕ, Bool, false, List, [], ◌∷◌, map, Some, Ok, refl, sym, ap, ◌∙◌}
+use Rattle.std.proofs.Common.{◌≡◌, ℕ, Bool, List, [], ◌∷◌, map, Some, Ok, refl, sym, ap, ◌∙◌}
 use Rattle.al_values.specs.declared.kinds.Kind.{Kind}
 use Rattle.al_values.specs.declared.scalar.Value.{Value}
-use Rattle.al_values.specs.declared.scalar.Value.TheVariants as values
 use Rattle.al_expr.specs.declared.column.Column.{Column}
 use Rattle.al_expr.specs.declared.tree.Operator.{Operator}
 use Rattle.al_expr.specs.declared.tree.Prefix.{Prefix}
@@ -18,7 +17,7 @@ use Rattle.al_expr.specs.Columns.{column_value}
 use Rattle.al_expr.specs.Kinds.{common, common_with, settled}
 use Rattle.al_expr.specs.Values.{Outcome, converted, denied_if, absolute, measured}
 use Rattle.al_expr.specs.Nominal.{shared_by, met, nominal, items_nominal}
-use Rattle.al_expr.specs.Evaluation.{Side, chain_value, prefixed_value, casts_value, tests_value, between_value, side_value, in_value, coalesce_value, sides_of, link_of, kinds_of, value_step, value_of, links_sides, items_sides}
+use Rattle.al_expr.specs.Evaluation.{Side, chain_value, prefixed_value, casts_value, tests_value, between_value, side_value, in_items, coalesce_value, sides_of, link_of, kinds_of, value_step, value_of, links_sides, items_sides}
 
 abbrev with_value : List Column → List Value → Expr → Expr × Outcome
 with_value columns row expr = (expr, value_of expr columns row)
@@ -48,8 +47,7 @@ kinds_are columns row [] = refl
 kinds_are columns row (item ∷ items) = ap (λ rest. nominal item columns ∷ rest) (kinds_are columns row items)
 
 abbrev pub in_all : Kind → Bool → Side → List Side → Outcome
-in_all kind negated value sides =
-    side_value kind value >>= (λ a. in_value kind a (values.Bool false) sides >>= (λ truth. Ok (denied_if negated truth)))
+in_all kind negated value sides = in_items kind value sides >>= (λ truth. Ok (denied_if negated truth))
 
 pub value_literal : (place : ℕ) (value : Value) (columns : List Column) (row : List Value) →
     value_of (e.Literal place value) columns row ≡ Ok value

@@ -16,8 +16,17 @@ column_kind [] name = None
 column_kind (column ∷ columns) name =
     if same_name column.name name then Some column.kind else column_kind columns name
 
--- the value of the first column of the name, in a row of these columns; a row that is too short has nulls
+-- the first value of a row, or Null, and the values after it
+abbrev pub first_value : List Value → Value
+first_value [] = values.Null
+first_value (value ∷ row) = value
+
+abbrev pub later_values : List Value → List Value
+later_values [] = []
+later_values (value ∷ row) = row
+
+-- the value of the first column of the name, in a row of these columns
 abbrev pub column_value : List Column → List Value → List ℕ → Value
-column_value (column ∷ columns) (value ∷ row) name =
-    if same_name column.name name then value else column_value columns row name
-column_value _ _ name = values.Null
+column_value [] row name = values.Null
+column_value (column ∷ columns) row name =
+    if same_name column.name name then first_value row else column_value columns (later_values row) name

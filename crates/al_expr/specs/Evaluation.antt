@@ -1,6 +1,6 @@
 -- The value of an expression on a row, or the first fault that evaluation meets (manual, chapter 9; 4.2.14, Expression
 -- Evaluation Rules, for what is left out: operands go from left to right here).
-use Rattle.std.specs.Prelude.{ℕ, Bool, true, false, not, if◌then◌else◌, List, [], ◌∷◌, map, Some, Result, Ok}
+use Rattle.std.specs.Prelude.{ℕ, Bool, false, if◌then◌else◌, List, [], ◌∷◌, map, Some, Result, Ok}
 use Rattle.al_values.specs.declared.kinds.Kind.{Kind}
 use Rattle.al_values.specs.declared.kinds.Kind.TheVariants as kinds
 use Rattle.al_values.specs.declared.scalar.Value.{Value}
@@ -22,18 +22,21 @@ use Rattle.al_expr.specs.Then.{◌>>=◌}
 use Rattle.al_expr.specs.Columns.{column_value}
 use Rattle.al_expr.specs.Kinds.{common, common_with, settled}
 use Rattle.al_expr.specs.Nominal.{operator_gives, prefix_gives, shared_by, met, nominal}
-use Rattle.al_expr.specs.Values.{Outcome, converted, read_in, both, either, denied_if, is_null, decides, related, absolute, measured, operated, operand_kind, prefix_value}
+use Rattle.al_expr.specs.Values.{Outcome, converted, read_in, both, either, denied_if, is_null, decides, related, absolute, measured, tested, operated, operand_kind, prefix_value}
 
 -- an operand: its kind, and its outcome
 abbrev pub Side : Type 0
 Side = Typed × Outcome
 
--- an operator on the value of its left side: the left side is read, it may decide, and then the right side is evaluated
--- and read
+-- an operator on the values of its sides, of which the left one is read
+abbrev pub sides_value : Operator → Typed → Value → Typed → Value → Outcome
+sides_value operator left_type left right_type right =
+    read_in (operand_kind operator left_type right_type) right_type right
+    >>= (λ b. operated operator (settled (operator_gives operator left_type right_type)) left b)
+
+-- an operator on the value of its left side: that is read, it may decide, and then the right side is evaluated
 abbrev pub right_value : Operator → Typed → Value → Side → Outcome
-right_value operator typed left right =
-    right.1 >>= (λ value. read_in (operand_kind operator typed right.0) right.0 value >>= (λ b.
-    operated operator (settled (operator_gives operator typed right.0)) left b))
+right_value operator typed left right = right.1 >>= (λ value. sides_value operator typed left right.0 value)
 
 abbrev pub decided_value : Operator → Typed → Value → Side → Outcome
 decided_value operator typed left right = if decides operator left then Ok left else right_value operator typed left right
@@ -63,8 +66,7 @@ casts_value value (to ∷ casts) = converted (casted value to.1) >>= (λ outer. 
 -- IS NULL and IS NOT NULL in a row, from the inside
 abbrev pub tests_value : Value → List (ℕ × Bool) → Value
 tests_value value [] = value
-tests_value value (test ∷ tests) =
-    tests_value (values.Bool (if test.1 then not (is_null value) else is_null value)) tests
+tests_value value (test ∷ tests) = tests_value (tested test.1 value) tests
 
 -- an operand, read as the kind
 abbrev pub side_value : Kind → Side → Outcome
@@ -91,6 +93,9 @@ in_value kind value so_far (item ∷ items) =
     side_value kind item >>= (λ b.
     let found = either so_far (related comparisons.Equal value b) in
     or_more found (in_value kind value found items))
+
+abbrev pub in_items : Kind → Side → List Side → Outcome
+in_items kind value items = side_value kind value >>= (λ a. in_value kind a (values.Bool false) items)
 
 -- the first value that isn't null
 abbrev pub unless_null : Value → Outcome → Outcome
@@ -130,8 +135,7 @@ value_step columns row (Expr-F.Between place negated value low high) =
     >>= (λ truth. Ok (denied_if negated truth))
 value_step columns row (Expr-F.In place negated value items) =
     let kind = met (shared_by (Some (nominal value.0 columns)) (kinds_of (sides_of columns items))) in
-    side_value kind (side_of columns value)
-    >>= (λ a. in_value kind a (values.Bool false) (sides_of columns items) >>= (λ truth. Ok (denied_if negated truth)))
+    in_items kind (side_of columns value) (sides_of columns items) >>= (λ truth. Ok (denied_if negated truth))
 value_step columns row (Expr-F.Coalesce place items) =
     coalesce_value (met (shared_by (Some types.Untyped) (kinds_of (sides_of columns items)))) (sides_of columns items)
 value_step columns row (Expr-F.Abs place operand) = operand.1 >>= (λ value. absolute (settled (nominal operand.0 columns)) value)

@@ -86,6 +86,10 @@ abbrev pub is_null : Value → Bool
 is_null values.Null = true
 is_null value = false
 
+-- IS NULL, or IS NOT NULL
+abbrev pub tested : Bool → Value → Value
+tested negated value = values.Bool (if negated then not (is_null value) else is_null value)
+
 -- OR is decided by a true on its left, AND by a false
 abbrev pub decides : Operator → Value → Bool
 decides operators.Or (values.Bool true) = true

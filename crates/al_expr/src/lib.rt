@@ -4,6 +4,7 @@
 mod arithmetic;
 mod column;
 mod copying;
+mod evaluation;
 mod fault;
 mod held;
 mod kinds;
@@ -14,6 +15,7 @@ mod typing;
 mod values;
 
 pub use column::{Column, ColumnList};
+pub use evaluation::eval;
 pub use fault::EvalFault;
 pub use kinds::{TypeFault, Typed};
 pub use tree::{Arithmetic, Comparison, Expr, Operator, Prefix};

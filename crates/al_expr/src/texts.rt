@@ -5,8 +5,8 @@ ghost use Rattle.al_values.specs.Gives.{GivesUnlessNoMemory};
 ghost use Rattle.al_values.specs.Reading.{read_as};
 ghost use Rattle.al_expr.specs.Values as table;
 
-use crate::held::Held;
 use crate::arithmetic::{calculated, in_kind, minus};
+use crate::held::Held;
 use crate::kinds::settled;
 use crate::values::{both, denied, either, related};
 use crate::{EvalFault, Operator, Prefix, Typed};
@@ -24,7 +24,9 @@ fn bounded(value: Value) -> Result<Value, EvalFault>
     if bytes <= MOST_BYTES {
         Ok(value)
     } else {
-        Err(EvalFault::TooLong { bytes: bytes as u64 })
+        Err(EvalFault::TooLong {
+            bytes: bytes as u64,
+        })
     }
 }
 
@@ -61,7 +63,12 @@ pub(crate) fn cast_to(alloc: Global, value: &Value, kind: Kind) -> Result<Value,
 }
 
 /// A value as its place wants it: a string that has no kind of its own is read as the kind. A text stays where it is.
-pub(crate) fn read_in<'a>(alloc: Global, kind: Kind, typed: Typed, value: Held<'a>) -> Result<Held<'a>, Cant<EvalFault>>
+pub(crate) fn read_in<'a>(
+    alloc: Global,
+    kind: Kind,
+    typed: Typed,
+    value: Held<'a>,
+) -> Result<Held<'a>, Cant<EvalFault>>
     ensures { GivesUnlessNoMemory result (table.read_in kind typed value.entry) }
 {
     match typed {
@@ -100,7 +107,9 @@ fn within_limit(value: &Value) -> Result<(), EvalFault>
     if bytes <= MOST_BYTES {
         Ok(())
     } else {
-        Err(EvalFault::TooLong { bytes: bytes as u64 })
+        Err(EvalFault::TooLong {
+            bytes: bytes as u64,
+        })
     }
 }
 
@@ -122,7 +131,9 @@ pub(crate) fn joined(alloc: Global, a: &Value, b: &Value) -> Result<Value, Cant<
         (Value::Text(a), Value::Text(b)) => {
             let bytes = a.as_bytes().len() + b.as_bytes().len();
             if bytes > MOST_BYTES {
-                return Err(Cant::Why(EvalFault::TooLong { bytes: bytes as u64 }));
+                return Err(Cant::Why(EvalFault::TooLong {
+                    bytes: bytes as u64,
+                }));
             }
             Ok(Value::Text(concatenated(alloc, a, b)?))
         }
@@ -156,11 +167,19 @@ pub(crate) fn measured(value: &Value) -> Result<Value, EvalFault>
 fn characters(text: &[u8]) -> usize
     ensures { result ≡ characters text.now }
 {
-    text.iter().filter(|byte| **byte < 0x80 || 0xC0 <= **byte).count()
+    text.iter()
+        .filter(|byte| **byte < 0x80 || 0xC0 <= **byte)
+        .count()
 }
 
 /// What a binary operator gives, where the kind that it gives is known.
-pub(crate) fn operated(alloc: Global, operator: Operator, kind: Kind, a: &Value, b: &Value) -> Result<Value, Cant<EvalFault>>
+pub(crate) fn operated(
+    alloc: Global,
+    operator: Operator,
+    kind: Kind,
+    a: &Value,
+    b: &Value,
+) -> Result<Value, Cant<EvalFault>>
     ensures { GivesUnlessNoMemory result (table.operated operator kind a.now b.now) }
 {
     match operator {
@@ -173,7 +192,12 @@ pub(crate) fn operated(alloc: Global, operator: Operator, kind: Kind, a: &Value,
 }
 
 /// What NOT or a sign gives.
-pub(crate) fn prefix_value<'a>(alloc: Global, prefix: Prefix, typed: Typed, value: Held<'a>) -> Result<Held<'a>, Cant<EvalFault>>
+pub(crate) fn prefix_value<'a>(
+    alloc: Global,
+    prefix: Prefix,
+    typed: Typed,
+    value: Held<'a>,
+) -> Result<Held<'a>, Cant<EvalFault>>
     ensures { GivesUnlessNoMemory result (table.prefix_value prefix typed value.entry) }
 {
     match prefix {

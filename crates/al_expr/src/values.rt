@@ -53,6 +53,17 @@ pub(crate) fn is_null(value: &Value) -> bool
     matches!(value, Value::Null)
 }
 
+/// IS NULL, or IS NOT NULL.
+pub(crate) fn tested(negated: bool, value: &Value) -> Value
+    ensures { result ≡ table.tested negated value.now }
+{
+    Value::Bool(if negated {
+        !is_null(value)
+    } else {
+        is_null(value)
+    })
+}
+
 /// Whether the left side decides what AND or OR gives.
 pub(crate) fn decides(operator: Operator, left: &Value) -> bool
     ensures { result ≡ table.decides operator left.now }
