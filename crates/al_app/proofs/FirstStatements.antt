@@ -15,7 +15,7 @@ use Rattle.al_app.specs.declared.first.inside.Lexeme.{Lexeme}
 use Rattle.al_app.specs.declared.first.inside.Lexeme.TheVariants as lexemes
 use Rattle.al_app.specs.FirstSteps.{◌>>=◌}
 use Rattle.al_app.specs.FirstInside.{lexemes_of}
-use Rattle.al_app.specs.First.{is_name, IsName, listed, IsOneToTen, column, value, default, statement, IsWell, IsEnd, IsStatement}
+use Rattle.al_app.specs.First.{is_name, IsName, listed, IsOneToTen, column, value, default, statement, IsSpelled, IsWell, IsEnd, IsStatement}
 use Rattle.al_app.specs.FirstReading.{word_at, sign_at, name_at, column_at, value_at, comma_at, listed_at, number_at, default_at, create_at, insert_at, select_at, alter_at, starts, one_at, is_end, statement_of}
 
 -- ---- single steps, before what comes after
@@ -89,26 +89,24 @@ column_again x rest t = rw (name_again x (lexemes.Word (codes "integer") ∷ res
 pub column_law : Takes column_at column IsName
 column_law = record { takes = column_takes; again = column_again }
 
-abbrev pub IsAny : Value → Type 0
-IsAny v = Unit {0}
-
-value_by : (v : List ℕ) (ls : List Lexeme) (y : Value × List Lexeme) (b : Bool) → bytes_eq v (codes "null") ≡ b → cond {A = Option (Value × List Lexeme)} b (Some (values.Null, ls)) None ≡ Some y → lexemes.Word v ∷ ls ≡ value y.0 ++ y.1
-value_by v ls y true t e = ends_as (λ y. lexemes.Word v ∷ ls ≡ value y.0 ++ y.1) (values.Null, ls) y e (ap (λ (u : List ℕ). lexemes.Word u ∷ ls) ((bytes_eq-Decides v (codes "null")).0 t))
+value_by : (v : List ℕ) (ls : List Lexeme) (y : Value × List Lexeme) (b : Bool) → bytes_eq v (codes "null") ≡ b → cond {A = Option (Value × List Lexeme)} b (Some (values.Null, ls)) None ≡ Some y → (lexemes.Word v ∷ ls ≡ value y.0 ++ y.1) × IsSpelled y.0
+value_by v ls y true t e = ends_as (λ y. (lexemes.Word v ∷ ls ≡ value y.0 ++ y.1) × IsSpelled y.0) (values.Null, ls) y e (ap (λ (u : List ℕ). lexemes.Word u ∷ ls) ((bytes_eq-Decides v (codes "null")).0 t), tt)
 value_by v ls y false t e = absurd cc
 
-value_takes : (ls : List Lexeme) (x : Value) (rest : List Lexeme) → value_at ls ≡ Some (x, rest) → (ls ≡ value x ++ rest) × IsAny x
+value_takes : (ls : List Lexeme) (x : Value) (rest : List Lexeme) → value_at ls ≡ Some (x, rest) → (ls ≡ value x ++ rest) × IsSpelled x
 unfolding value_at
 value_takes [] x rest e = absurd cc
-value_takes (lexemes.Word v ∷ ls) x rest e = (value_by v ls (x, rest) (bytes_eq v (codes "null")) refl e, tt)
-value_takes (lexemes.Number n ∷ ls) x rest e = ends_as (λ y. (lexemes.Number n ∷ ls ≡ value y.0 ++ y.1) × IsAny y.0) (values.Int n, ls) (x, rest) e (refl, tt)
+value_takes (lexemes.Word v ∷ ls) x rest e = value_by v ls (x, rest) (bytes_eq v (codes "null")) refl e
+value_takes (lexemes.Number n ∷ ls) x rest e = ends_as (λ y. (lexemes.Number n ∷ ls ≡ value y.0 ++ y.1) × IsSpelled y.0) (values.Int n, ls) (x, rest) e (refl, tt)
 value_takes (lexemes.Sign s ∷ ls) x rest e = absurd cc
 
-value_again : (x : Value) (rest : List Lexeme) → IsAny x → value_at (value x ++ rest) ≡ Some (x, rest)
+value_again : (x : Value) (rest : List Lexeme) → IsSpelled x → value_at (value x ++ rest) ≡ Some (x, rest)
 unfolding value_at
 value_again (values.Int n) rest t = refl
 value_again values.Null rest t = refl
+value_again _ rest t = absurd t
 
-pub value_law : Takes value_at value IsAny
+pub value_law : Takes value_at value IsSpelled
 value_law = record { takes = value_takes; again = value_again }
 
 -- ---- lists with commas
@@ -200,10 +198,6 @@ list_then {A} item spell Fits law ls k y e =
     let all : l.new ≡ a.0.0 = sym l.all in
     (a.0.0, a.0.1, l.spelled ∙ ap (λ (xs : List A). listed spell xs ++ a.0.1) all, (subst (λ (xs : List A). 0 < length xs) all l.some, subst (λ (xs : List A). length xs ≤ 10) all l.few), subst (λ (xs : List A). AllByRecursion Fits xs) all l.fit, a.2)
 
-all_any : (xs : List Value) → AllByRecursion IsAny xs
-all_any [] = tt
-all_any (x ∷ xs) = (tt, all_any xs)
-
 -- ---- statements
 
 -- what a statement's reader took
@@ -234,10 +228,10 @@ insert_takes ls y e =
     let t = name_then b.0 _ y b.2 in
     let v = word_then (codes "values") t.1 _ y t.4 in
     let c = sign_then 40 v.0 _ y v.2 in
-    let l = list_then value_at value IsAny value_law c.0 _ y c.2 in
+    let l = list_then value_at value IsSpelled value_law c.0 _ y c.2 in
     let made : Statement × List Lexeme = (statements.Insert t.0 l.0, l.1) in
     let spelled : ls ≡ statement made.0 ++ made.1 = a.1 ∙ behind (lexemes.Word (codes "insert")) (b.1 ∙ behind (lexemes.Word (codes "into")) (t.2 ∙ behind (lexemes.Word t.0) (v.1 ∙ behind (lexemes.Word (codes "values")) (c.1 ∙ behind (lexemes.Sign 40) l.2)))) in
-    took_as ls made y l.5 (record { spelled = spelled; is_well = (t.3, l.3) })
+    took_as ls made y l.5 (record { spelled = spelled; is_well = (t.3, l.4, l.3) })
 
 select_takes : (ls : List Lexeme) (y : Statement × List Lexeme) → select_at ls ≡ Some y → Took ls y
 unfolding select_at
@@ -250,21 +244,22 @@ select_takes ls y e =
     let spelled : ls ≡ statement made.0 ++ made.1 = a.1 ∙ behind (lexemes.Word (codes "select")) (b.1 ∙ behind (lexemes.Sign 42) (c.1 ∙ behind (lexemes.Word (codes "from")) t.2)) in
     took_as ls made y t.4 (record { spelled = spelled; is_well = t.3 })
 
-number_takes : (ls : List Lexeme) (y : Value × List Lexeme) → number_at ls ≡ Some y → lexemes.Word (codes "default") ∷ ls ≡ default y.0 ++ y.1
+number_takes : (ls : List Lexeme) (y : Value × List Lexeme) → number_at ls ≡ Some y → (lexemes.Word (codes "default") ∷ ls ≡ default y.0 ++ y.1) × IsSpelled y.0
 unfolding number_at
 number_takes [] y e = absurd cc
 number_takes (lexemes.Word v ∷ ls) y e = absurd cc
-number_takes (lexemes.Number n ∷ ls) y e = subst (λ (z : Value × List Lexeme). lexemes.Word (codes "default") ∷ lexemes.Number n ∷ ls ≡ default z.0 ++ z.1) (same_Some (values.Int n, ls) y e) refl
+number_takes (lexemes.Number n ∷ ls) y e = subst (λ (z : Value × List Lexeme). (lexemes.Word (codes "default") ∷ lexemes.Number n ∷ ls ≡ default z.0 ++ z.1) × IsSpelled z.0) (same_Some (values.Int n, ls) y e) (refl, tt)
 number_takes (lexemes.Sign s ∷ ls) y e = absurd cc
 
-default_takes : (ls : List Lexeme) (y : Value × List Lexeme) → default_at ls ≡ Some y → ls ≡ default y.0 ++ y.1
+default_takes : (ls : List Lexeme) (y : Value × List Lexeme) → default_at ls ≡ Some y → (ls ≡ default y.0 ++ y.1) × IsSpelled y.0
 unfolding default_at
-default_takes [] y e = subst (λ (z : Value × List Lexeme). [] ≡ default z.0 ++ z.1) (same_Some (values.Null, []) y e) refl
+default_takes [] y e = subst (λ (z : Value × List Lexeme). ([] ≡ default z.0 ++ z.1) × IsSpelled z.0) (same_Some (values.Null, []) y e) (refl, tt)
 default_takes (lexemes.Word v ∷ ls) y e =
     let a = word_then (codes "default") (lexemes.Word v ∷ ls) number_at y e in
-    a.1 ∙ number_takes a.0 y a.2
-default_takes (lexemes.Number n ∷ ls) y e = subst (λ (z : Value × List Lexeme). lexemes.Number n ∷ ls ≡ default z.0 ++ z.1) (same_Some (values.Null, lexemes.Number n ∷ ls) y e) refl
-default_takes (lexemes.Sign s ∷ ls) y e = subst (λ (z : Value × List Lexeme). lexemes.Sign s ∷ ls ≡ default z.0 ++ z.1) (same_Some (values.Null, lexemes.Sign s ∷ ls) y e) refl
+    let number = number_takes a.0 y a.2 in
+    (a.1 ∙ number.0, number.1)
+default_takes (lexemes.Number n ∷ ls) y e = subst (λ (z : Value × List Lexeme). (lexemes.Number n ∷ ls ≡ default z.0 ++ z.1) × IsSpelled z.0) (same_Some (values.Null, lexemes.Number n ∷ ls) y e) (refl, tt)
+default_takes (lexemes.Sign s ∷ ls) y e = subst (λ (z : Value × List Lexeme). (lexemes.Sign s ∷ ls ≡ default z.0 ++ z.1) × IsSpelled z.0) (same_Some (values.Null, lexemes.Sign s ∷ ls) y e) (refl, tt)
 
 alter_takes : (ls : List Lexeme) (y : Statement × List Lexeme) → alter_at ls ≡ Some y → Took ls y
 unfolding alter_at
@@ -277,9 +272,10 @@ alter_takes ls y e =
     let n = bind_some (column_at d.0) _ y d.2 in
     let m = column_takes d.0 n.0.0 n.0.1 n.1 in
     let f = bind_some (default_at n.0.1) _ y n.2 in
+    let given = default_takes n.0.1 f.0 f.1 in
     let made : Statement × List Lexeme = (statements.AddColumn t.0 (record { name = n.0.0; default = f.0.0 }), f.0.1) in
-    let spelled : ls ≡ statement made.0 ++ made.1 = a.1 ∙ behind (lexemes.Word (codes "alter")) (b.1 ∙ behind (lexemes.Word (codes "table")) (t.2 ∙ behind (lexemes.Word t.0) (c.1 ∙ behind (lexemes.Word (codes "add")) (d.1 ∙ behind (lexemes.Word (codes "column")) (m.0 ∙ behind (lexemes.Word n.0.0) (behind (lexemes.Word (codes "integer")) (default_takes n.0.1 f.0 f.1))))))) in
-    took_as ls made y f.2 (record { spelled = spelled; is_well = (t.3, m.1) })
+    let spelled : ls ≡ statement made.0 ++ made.1 = a.1 ∙ behind (lexemes.Word (codes "alter")) (b.1 ∙ behind (lexemes.Word (codes "table")) (t.2 ∙ behind (lexemes.Word t.0) (c.1 ∙ behind (lexemes.Word (codes "add")) (d.1 ∙ behind (lexemes.Word (codes "column")) (m.0 ∙ behind (lexemes.Word n.0.0) (behind (lexemes.Word (codes "integer")) given.0)))))) in
+    took_as ls made y f.2 (record { spelled = spelled; is_well = (t.3, m.1, given.1) })
 
 one_by : (ls : List Lexeme) (y : Statement × List Lexeme) (a b c : Bool) → cond a (create_at ls) (cond b (insert_at ls) (cond c (select_at ls) (alter_at ls))) ≡ Some y → Took ls y
 one_by ls y true b c e = create_takes ls y e
@@ -326,17 +322,18 @@ create_again table columns rest fits =
 insert_again : (table : List ℕ) (values : List Value) (rest : List Lexeme) → IsWell (statements.Insert table values) → insert_at (statement (statements.Insert table values) ++ rest) ≡ Some (statements.Insert table values, rest)
 unfolding insert_at
 insert_again table values rest fits =
-    rw (word_again, word_again, name_again table (lexemes.Word (codes "values") ∷ lexemes.Sign 40 ∷ (listed value values ++ rest)) fits.0, word_again, sign_again, list_again value_at value IsAny value_law 10 [] values rest fits.1.0 fits.1.1 (all_any values)) refl
+    rw (word_again, word_again, name_again table (lexemes.Word (codes "values") ∷ lexemes.Sign 40 ∷ (listed value values ++ rest)) fits.0, word_again, sign_again, list_again value_at value IsSpelled value_law 10 [] values rest fits.2.0 fits.2.1 fits.1) refl
 
 select_again : (table : List ℕ) (rest : List Lexeme) → IsWell (statements.Select table) → select_at (statement (statements.Select table) ++ rest) ≡ Some (statements.Select table, rest)
 unfolding select_at
 select_again table rest fits = rw (word_again, sign_again, word_again, name_again table rest fits) refl
 
-default_again : (v : Value) (end : List Lexeme) → IsEnd end → default_at (default v ++ end) ≡ Some (v, end)
+default_again : (v : Value) (end : List Lexeme) → IsSpelled v → IsEnd end → default_at (default v ++ end) ≡ Some (v, end)
 unfolding default_at number_at
-default_again (values.Int n) end is = rw word_again refl
-default_again values.Null end (inl is) = rw is refl
-default_again values.Null end (inr is) = rw is refl
+default_again (values.Int n) end spelled is = rw word_again refl
+default_again values.Null end spelled (inl is) = rw is refl
+default_again values.Null end spelled (inr is) = rw is refl
+default_again _ end spelled is = absurd spelled
 
 alter_again : (table : List ℕ) (added : Column) (end : List Lexeme) → IsWell (statements.AddColumn table added) → IsEnd end → alter_at (statement (statements.AddColumn table added) ++ end) ≡ Some (statements.AddColumn table added, end)
 unfolding alter_at
@@ -349,7 +346,7 @@ alter_again table added end fits is =
       word_again,
       word_again,
       column_again added.name (default added.default ++ end) fits.1,
-      default_again added.default end is,
+      default_again added.default end fits.2 is,
     ) refl
 
 one_again : (one : Statement) (end : List Lexeme) → IsWell one → IsEnd end → one_at (statement one ++ end) ≡ Some (one, end)

@@ -57,15 +57,22 @@ IsOneToTen xs = (0 < length xs) × (length xs ≤ 10)
 abbrev pub column : List ℕ → List Lexeme
 column name = lexemes.Word name ∷ lexemes.Word (codes "integer") ∷ []
 
+-- the form has integers and NULL, and no other values
+abbrev pub IsSpelled : Value → Type 0
+IsSpelled (values.Int n) = Unit {0}
+IsSpelled values.Null = Unit {0}
+IsSpelled _ = ⊥
+
 -- value := digits | NULL
 abbrev pub value : Value → List Lexeme
 value (values.Int n) = lexemes.Number n ∷ []
 value values.Null = lexemes.Word (codes "null") ∷ []
+value _ = []
 
 -- [ DEFAULT digits ]
 abbrev pub default : Value → List Lexeme
 default (values.Int n) = lexemes.Word (codes "default") ∷ lexemes.Number n ∷ []
-default values.Null = []
+default _ = []
 
 -- the lexemes of a statement, one line for each kind
 abbrev pub statement : Statement → List Lexeme
@@ -79,12 +86,12 @@ statement (statements.AddColumn table added) =
     lexemes.Word (codes "alter") ∷ lexemes.Word (codes "table") ∷ lexemes.Word table ∷
     lexemes.Word (codes "add") ∷ lexemes.Word (codes "column") ∷ lexemes.Word added.name ∷ lexemes.Word (codes "integer") ∷ default added.default
 
--- its names are names, and its lists aren't too long
+-- its names are names, its values those of the form, and its lists aren't too long
 abbrev pub IsWell : Statement → Type 0
 IsWell (statements.CreateTable table columns) = IsName table × AllByRecursion IsName columns × IsOneToTen columns
-IsWell (statements.Insert table values) = IsName table × IsOneToTen values
+IsWell (statements.Insert table values) = IsName table × AllByRecursion IsSpelled values × IsOneToTen values
 IsWell (statements.Select table) = IsName table
-IsWell (statements.AddColumn table added) = IsName table × IsName added.name
+IsWell (statements.AddColumn table added) = IsName table × IsName added.name × IsSpelled added.default
 
 -- [ ";" ]
 abbrev pub IsEnd : List Lexeme → Type 0

@@ -16,17 +16,22 @@ abbrev pub text_of : Value → List ℕ
 text_of (values.Bool truth) = if truth then codes "true" else codes "false"
 text_of value = printed value
 
--- what is stored of a value in a column of the kind
+-- a text goes into the texts alone
+abbrev pub spelled_into : List ℕ → Kind → Result Value CastFault
+spelled_into text kinds.Text = Ok (values.Text text)
+spelled_into text (kinds.Varchar most) = stored_text most text
+spelled_into text _ = Err faults.NoCast
+
+-- what is stored of a value in a column of the kind: integers go among the integer kinds, booleans and days into their
+-- own kinds, and everything into the texts
 abbrev pub assigned : Value → Kind → Result Value CastFault
 assigned values.Null to = Ok values.Null
-assigned value kinds.Text = Ok (values.Text (text_of value))
-assigned value (kinds.Varchar most) = stored_text most (text_of value)
 assigned (values.Int number) kinds.Smallint = ranged kinds.Smallint number
 assigned (values.Int number) kinds.Integer = ranged kinds.Integer number
 assigned (values.Int number) kinds.Bigint = ranged kinds.Bigint number
 assigned (values.Bool truth) kinds.Boolean = Ok (values.Bool truth)
 assigned (values.Day day) kinds.Date = Ok (values.Day day)
-assigned value to = Err faults.NoCast
+assigned value to = spelled_into (text_of value) to
 
 -- what a written cast makes of a value: a text is read, a text for varchar is cut whatever it loses, booleans and
 -- integers go into one another, and all else is as it is stored

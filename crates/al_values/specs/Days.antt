@@ -7,10 +7,11 @@ use Rattle.jiff_core.specs.Calendar.{days_in_month, days_from_civil}
 abbrev pub is_day : ℤ → Bool
 is_day day = int_le (neg_ℤ (pos 719_162)) day && int_le day (pos 2_932_896)
 
--- the calendar has this day, in a year from 1 on
+-- the calendar has this day, in a year from 1 to 9999
 abbrev pub is_date : ℕ → ℕ → ℕ → Bool
 is_date year month day =
-    nat_le 1 year && nat_le 1 month && nat_le month 12 && nat_le 1 day && nat_le day (days_in_month (pos year) month)
+    nat_le 1 year && nat_le year 9999 && nat_le 1 month && nat_le month 12
+    && nat_le 1 day && nat_le day (days_in_month (pos year) month)
 
 -- the number of the day
 abbrev pub day_number : ℕ → ℕ → ℕ → ℤ
@@ -38,7 +39,8 @@ padded_to digits number = replicate (digits - length (decimal number)) 48 ++ dec
 
 -- YYYY-MM-DD
 abbrev pub date_text : ℕ → ℕ → ℕ → List ℕ
-date_text year month day = padded_to 4 year ++ codes "-" ++ padded_to 2 month ++ codes "-" ++ padded_to 2 day
+date_text year month day =
+    padded_to 4 year ++ (codes "-" ++ (padded_to 2 month ++ (codes "-" ++ padded_to 2 day)))
 
 -- a day as it is printed; one outside the years 1 to 9999, which no statement gives, by its number
 unfoldable pub day_text : ℤ → List ℕ

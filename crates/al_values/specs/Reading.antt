@@ -1,5 +1,5 @@
 -- What a text is read as (manual, 4.1.2.7, Constants of Other Types; 8.1, 8.5 and 8.6 for what each kind takes).
-use Rattle.std.specs.Prelude.{ℕ, ◌+◌, ◌-◌, ◌*◌, ℤ, pos, neg_ℤ, Bool, true, false, not, ◌&&◌, ◌||◌, ◌==◌, nat_le, if◌then◌else◌, List, [], ◌∷◌, map, reverse, length, take, drop, fold, slice_index, bytes_eq, Option, Some, None, option_map, Result, Ok, Err, codes}
+use Rattle.std.specs.Prelude.{ℕ, ◌+◌, ◌-◌, ◌*◌, ℤ, pos, neg_ℤ, Bool, true, false, ◌&&◌, ◌||◌, ◌==◌, nat_le, if◌then◌else◌, List, [], ◌∷◌, map, reverse, length, take, drop, fold, slice_index, bytes_eq, Option, Some, None, option_map, Result, Ok, Err, codes}
 use Rattle.std.specs.List.{list_all, list_any}
 use Rattle.std.specs.Char.{to_ascii_lowercase}
 use Rattle.al_values.specs.declared.scalar.Value.{Value}
@@ -34,14 +34,19 @@ digits_value digits = fold (λ before digit. before * 10 + (digit - 48)) 0 digit
 
 -- digits, one or more of them
 unfoldable pub unsigned_of : List ℕ → Option ℕ
-unsigned_of text = if not (length text == 0) && list_all is_digit text then Some (digits_value text) else None
+unsigned_of [] = None
+unsigned_of digits = if list_all is_digit digits then Some (digits_value digits) else None
 
--- the same with a sign before them, or none
+abbrev pub signed_of : Bool → ℕ → ℤ
+signed_of minus number = if minus then neg_ℤ (pos number) else pos number
+
+-- digits with a sign before them, or none
 abbrev pub number_of : List ℕ → Option ℤ
 number_of [] = None
 number_of (byte ∷ text) =
-    if byte == 45 then option_map (λ number. neg_ℤ (pos number)) (unsigned_of text)
-    else (if byte == 43 then option_map pos (unsigned_of text) else option_map pos (unsigned_of (byte ∷ text)))
+    if byte == 45 then option_map (signed_of true) (unsigned_of text)
+    else (if byte == 43 then option_map (signed_of false) (unsigned_of text)
+    else option_map (signed_of false) (unsigned_of (byte ∷ text)))
 
 -- the number, where the kind has it
 abbrev pub ranged : Kind → ℤ → Result Value CastFault
@@ -68,20 +73,17 @@ boolean_read word =
     if is_among true_words (map to_ascii_lowercase word) then Ok (values.Bool true)
     else (if is_among false_words (map to_ascii_lowercase word) then Ok (values.Bool false) else Err faults.BadText)
 
--- the form YYYY-MM-DD
-abbrev pub has_date_form : List ℕ → Bool
-has_date_form text =
-    length text == 10 && slice_index text 4 == 45 && slice_index text 7 == 45
-    && list_all is_digit (take 4 text) && list_all is_digit (take 2 (drop 5 text)) && list_all is_digit (drop 8 text)
-
 -- the day, where the calendar has it
-abbrev pub dated : ℕ → ℕ → ℕ → Result Value CastFault
-dated year month day = if is_date year month day then Ok (values.Day (day_number year month day)) else Err faults.BadDate
+abbrev pub dated : Option ℕ → Option ℕ → Option ℕ → Result Value CastFault
+dated (Some year) (Some month) (Some day) =
+    if is_date year month day then Ok (values.Day (day_number year month day)) else Err faults.BadDate
+dated _ _ _ = Err faults.BadDate
 
+-- ten bytes, YYYY-MM-DD
 unfoldable pub date_read : List ℕ → Result Value CastFault
 date_read text =
-    if has_date_form text
-    then dated (digits_value (take 4 text)) (digits_value (take 2 (drop 5 text))) (digits_value (drop 8 text))
+    if length text == 10 && slice_index text 4 == 45 && slice_index text 7 == 45
+    then dated (unsigned_of (take 4 text)) (unsigned_of (take 2 (drop 5 text))) (unsigned_of (take 2 (drop 8 text)))
     else Err faults.BadDate
 
 -- a text that is stored with at most so many characters: past them it may have spaces alone, which go

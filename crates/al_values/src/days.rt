@@ -1,17 +1,17 @@
-ghost use Rattle.std.specs.Prelude.{Some};
-ghost use Rattle.al_values.specs.Days.{day_text};
+ghost use Rattle.std.specs.Prelude.{◌≡◌, false, true, MatchOption};
+ghost use Rattle.al_values.specs.Days.{is_day, year_of, month_of, place_of};
 
-use std::fmt;
+use jiff_core::civil::Date;
 
-/// A day number that is to be printed.
-#[derive(Drop)]
-pub struct Shown(pub i32);
-
-impl fmt::Display for Shown {
-    ghost output = { λ it. Some (day_text it.0) };
-
-    fn fmt<W: fmt::Write>(&self, _f: &mut fmt::Formatter<W>) -> fmt::Result {
-        let _day = self.0;
-        Err(fmt::Error)
+#[tactic(auto, using(crate::proofs::DayNumbers::before_year_one, crate::proofs::DayNumbers::within_years))]
+/// The year, the month and the day of a day of the years 1 to 9999.
+pub(crate) fn civil(number: i64) -> Option<(u16, u8, u8)>
+    ensures { MatchOption result (is_day number ≡ false) (λ date.
+        (is_day number ≡ true) × (date.0 ≡ year_of number) × (date.1 ≡ month_of number) × (date.2 ≡ place_of number)) }
+{
+    let date = Date::from_unix_epoch_day(number).ok()?;
+    if date.year < 1 {
+        return None;
     }
+    Some((date.year as u16, date.month, date.day))
 }

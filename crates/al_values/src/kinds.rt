@@ -1,3 +1,6 @@
+ghost use Rattle.std.specs.Prelude.{◌≡◌};
+ghost use Rattle.al_values.specs.Kinds.{group_of, fits};
+
 /// The kind of a column (manual, chapter 8, Data Types).
 #[derive(Clone, Copy, Debug, PartialEq, Eq)]
 pub enum Kind {
@@ -15,6 +18,32 @@ pub enum Kind {
     Varchar(u32),
     /// A day of the calendar (8.5).
     Date,
+}
+
+impl Kind {
+    /// The group that it belongs to.
+    pub fn group(self) -> Group
+        ensures { result ≡ group_of self }
+    {
+        match self {
+            Kind::Smallint | Kind::Integer | Kind::Bigint => Group::Integers,
+            Kind::Boolean => Group::Boolean,
+            Kind::Text | Kind::Varchar(_) => Group::Texts,
+            Kind::Date => Group::Date,
+        }
+    }
+
+    /// Whether it is an integer kind that has the number (manual, 8.1.1).
+    pub fn fits(self, number: i64) -> bool
+        ensures { result ≡ fits self number }
+    {
+        match self {
+            Kind::Smallint => (-32_768..=32_767).contains(&number),
+            Kind::Integer => (-2_147_483_648..=2_147_483_647).contains(&number),
+            Kind::Bigint => true,
+            _ => false,
+        }
+    }
 }
 
 /// The groups of kinds: conversions and operators go by them.

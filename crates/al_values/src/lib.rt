@@ -3,6 +3,7 @@
 #![tactic(auto)]
 
 mod cant;
+mod characters;
 mod convert;
 mod copied;
 mod days;
@@ -11,9 +12,12 @@ mod listed;
 mod order;
 mod reading;
 mod scalar;
+#[cfg(test)]
+mod tests;
 mod text;
 
 pub use cant::{Cant, NoMemory};
+pub use characters::count_characters;
 pub use convert::{assign, cast};
 pub use copied::Copied;
 pub use kinds::{CastFault, Group, Kind, Tri};

@@ -37,13 +37,17 @@ impl Copied for Value {
 impl fmt::Display for Value {
     ghost output = { λ value. Some (printed value) };
 
+    #[tactic(auto, using(crate::proofs::DayTexts::dated_text, crate::proofs::DayTexts::number_text))]
     fn fmt<W: fmt::Write>(&self, f: &mut fmt::Formatter<W>) -> fmt::Result {
         match self {
             Value::Null => Ok(()),
             Value::Bool(truth) => f.write_str(if *truth { "t" } else { "f" }),
             Value::Int(number) => write!(f, "{number}"),
             Value::Text(text) => write!(f, "{text}"),
-            Value::Day(day) => write!(f, "{}", days::Shown(*day)),
+            Value::Day(number) => match days::civil(i64::from(*number)) {
+                Some((year, month, day)) => write!(f, "{year:04}-{month:02}-{day:02}"),
+                None => write!(f, "{number}"),
+            },
         }
     }
 }

@@ -200,7 +200,7 @@ fn printed(alloc: Global, statement: &Statement) -> Result<String, AllocError> {
         Statement::Select { table } => format!(in alloc; "select {table}"),
         Statement::AddColumn { table, column } => match &column.default {
             Value::Null => format!(in alloc; "add {table} {}", column.name),
-            Value::Int(number) => format!(in alloc; "add {table} {} {number}", column.name),
+            default => format!(in alloc; "add {table} {} {default}", column.name),
         },
     }
 }

@@ -1,0 +1,9 @@
+mod Blanks
+mod Dates
+mod DayLaws
+mod DayNumbers
+mod DayTexts
+mod Digits
+mod Ends
+mod ReadAgain
+mod Vectors
