@@ -9,6 +9,10 @@ mod fault;
 mod held;
 mod kinds;
 mod nominal;
+#[cfg(test)]
+mod samples;
+#[cfg(test)]
+mod tests;
 mod texts;
 mod tree;
 mod typing;
