@@ -1,23 +1,17 @@
 use crate::samples::{
-    abs, alone, between, binary, calculated, cast, coalesce, compared, date, faulty, faulty_truth,
-    integer, kind_alone, length, name, null, number, pair, prefixed, row, string, told, truth,
-    within,
+    abs, between, binary, calculated, cast, coalesce, compared, copy, date, faulty, faulty_truth,
+    gives, gives_on, gives_on_texts, has_kind, has_kind_on, integer, is_wrong_at, length, long_sum,
+    name, nested, null, number, prefixed, string, tested, truth, within,
 };
-use crate::{
-    Arithmetic, ColumnList, Comparison, EvalFault, Expr, Operator, Prefix, TypeFault, Typed, eval,
-    kind_of,
-};
-use al_values::{Cant, Copied, Kind, NoMemory, Row, Txt, Value};
-use sqlite_items::{Boxed, Items};
-use std::alloc::Global;
-use std::test::Fail;
+use crate::{Arithmetic, Comparison, Operator, Prefix, TypeFault, Typed};
+use al_values::Kind;
 
 const YES: Option<bool> = Some(true);
 
 const NO: Option<bool> = Some(false);
 
 #[test]
-fn logic(rt: HostRuntime) -> Result<(), Fail> {
+fn logic(rt: HostRuntime) {
     let alloc = rt.alloc();
     let rows: [(Option<bool>, Option<bool>, &str, &str); 9] = [
         (YES, YES, "t", "t"),
@@ -31,16 +25,25 @@ fn logic(rt: HostRuntime) -> Result<(), Fail> {
         (None, None, "null", "null"),
     ];
     for (a, b, both, either) in rows {
-        let and = binary(alloc, truth(a), 0, Operator::And, truth(b))?;
-        assert_eq!(rt; alone(alloc, &and)?.as_str(), both);
-        let or = binary(alloc, truth(a), 0, Operator::Or, truth(b))?;
-        assert_eq!(rt; alone(alloc, &or)?.as_str(), either);
+        assert!(rt;
+            gives(
+                alloc,
+                binary(alloc, truth(a), 0, Operator::And, truth(b)),
+                both
+            )
+        );
+        assert!(rt;
+            gives(
+                alloc,
+                binary(alloc, truth(a), 0, Operator::Or, truth(b)),
+                either
+            )
+        );
     }
-    Ok(())
 }
 
 #[test]
-fn denials_and_tests_of_null(rt: HostRuntime) -> Result<(), Fail> {
+fn denials_and_tests_of_null(rt: HostRuntime) {
     let alloc = rt.alloc();
     let rows: [(Option<bool>, &str, bool, &str); 6] = [
         (YES, "f", false, "f"),
@@ -50,31 +53,14 @@ fn denials_and_tests_of_null(rt: HostRuntime) -> Result<(), Fail> {
         (NO, "t", true, "t"),
         (None, "null", true, "f"),
     ];
-    for (a, denied, negated, tested) in rows {
-        let not = prefixed(alloc, 0, Prefix::Not, truth(a))?;
-        assert_eq!(rt; alone(alloc, &not)?.as_str(), denied);
-        let mut tests = Items::new(alloc);
-        tests.push((0, negated))?;
-        let is_null = Expr::IsNull(Boxed::new(alloc, truth(a))?, tests);
-        assert_eq!(rt; alone(alloc, &is_null)?.as_str(), tested);
+    for (a, denied, negated, test) in rows {
+        assert!(rt; gives(alloc, prefixed(alloc, 0, Prefix::Not, truth(a)), denied));
+        assert!(rt; gives(alloc, tested(alloc, truth(a), &[negated]), test));
     }
-    Ok(())
-}
-
-fn on_columns(
-    alloc: Global,
-    kinds: (Kind, Kind),
-    values: (i64, i64),
-    operator: Arithmetic,
-) -> Result<Txt, NoMemory> {
-    let columns = pair(alloc, kinds.0, kinds.1)?;
-    let row = row(alloc, Value::Int(values.0), Value::Int(values.1))?;
-    let expr = calculated(alloc, name(alloc, 0, "a")?, operator, name(alloc, 2, "b")?)?;
-    told(alloc, &expr, &columns, &row)
 }
 
 #[test]
-fn arithmetic(rt: HostRuntime) -> Result<(), Fail> {
+fn arithmetic(rt: HostRuntime) {
     let alloc = rt.alloc();
     let (small, whole, big) = (Kind::Smallint, Kind::Integer, Kind::Bigint);
     let rows: [(Kind, i64, Arithmetic, Kind, i64, &str); 20] = [
@@ -107,14 +93,13 @@ fn arithmetic(rt: HostRuntime) -> Result<(), Fail> {
         (big, i64::MAX, Arithmetic::Multiply, small, 2, "Range"),
     ];
     for (a_kind, a, operator, b_kind, b, wanted) in rows {
-        let found = on_columns(alloc, (a_kind, b_kind), (a, b), operator)?;
-        assert_eq!(rt; found.as_str(), wanted);
+        let made = calculated(alloc, name(alloc, 0, "a"), operator, name(alloc, 2, "b"));
+        assert!(rt; gives_on(alloc, made, (a_kind, b_kind), (a, b), wanted));
     }
-    Ok(())
 }
 
 #[test]
-fn signs(rt: HostRuntime) -> Result<(), Fail> {
+fn signs(rt: HostRuntime) {
     let alloc = rt.alloc();
     let rows: [(Kind, i64, &str, &str); 6] = [
         (Kind::Integer, 5, "-5", "5"),
@@ -125,20 +110,15 @@ fn signs(rt: HostRuntime) -> Result<(), Fail> {
         (Kind::Bigint, i64::MIN, "Range", "Range"),
     ];
     for (kind, value, minus, absolute) in rows {
-        let columns = pair(alloc, kind, kind)?;
-        let row = row(alloc, Value::Int(value), Value::Null)?;
-        let negated = prefixed(alloc, 0, Prefix::Minus, name(alloc, 1, "a")?)?;
-        assert_eq!(rt; told(alloc, &negated, &columns, &row)?.as_str(), minus);
-        let unsigned = abs(alloc, name(alloc, 1, "a")?)?;
-        assert_eq!(rt; told(alloc, &unsigned, &columns, &row)?.as_str(), absolute);
-        let of_null = abs(alloc, name(alloc, 1, "b")?)?;
-        assert_eq!(rt; told(alloc, &of_null, &columns, &row)?.as_str(), "null");
+        let negated = prefixed(alloc, 0, Prefix::Minus, name(alloc, 1, "a"));
+        assert!(rt; gives_on(alloc, negated, (kind, kind), (value, 0), minus));
+        let unsigned = abs(alloc, name(alloc, 1, "a"));
+        assert!(rt; gives_on(alloc, unsigned, (kind, kind), (value, 0), absolute));
     }
-    Ok(())
 }
 
 #[test]
-fn comparisons(rt: HostRuntime) -> Result<(), Fail> {
+fn comparisons(rt: HostRuntime) {
     let alloc = rt.alloc();
     let rows: [(Comparison, &str, &str, &str); 6] = [
         (Comparison::Equal, "f", "t", "f"),
@@ -150,19 +130,33 @@ fn comparisons(rt: HostRuntime) -> Result<(), Fail> {
     ];
     for (comparison, below, same, above) in rows {
         for (a, wanted) in [(1, below), (2, same), (3, above)] {
-            let expr = compared(alloc, number(a), comparison, number(2))?;
-            assert_eq!(rt; alone(alloc, &expr)?.as_str(), wanted);
+            assert!(rt;
+                gives(
+                    alloc,
+                    compared(alloc, number(a), comparison, number(2)),
+                    wanted
+                )
+            );
         }
-        let left = compared(alloc, null(), comparison, number(2))?;
-        assert_eq!(rt; alone(alloc, &left)?.as_str(), "null");
-        let right = compared(alloc, number(2), comparison, null())?;
-        assert_eq!(rt; alone(alloc, &right)?.as_str(), "null");
+        assert!(rt;
+            gives(
+                alloc,
+                compared(alloc, null(), comparison, number(2)),
+                "null"
+            )
+        );
+        assert!(rt;
+            gives(
+                alloc,
+                compared(alloc, number(2), comparison, null()),
+                "null"
+            )
+        );
     }
-    Ok(())
 }
 
 #[test]
-fn nulls_in_arithmetic_and_texts(rt: HostRuntime) -> Result<(), Fail> {
+fn nulls_in_arithmetic_and_texts(rt: HostRuntime) {
     let alloc = rt.alloc();
     let arithmetic = [
         Arithmetic::Add,
@@ -172,20 +166,33 @@ fn nulls_in_arithmetic_and_texts(rt: HostRuntime) -> Result<(), Fail> {
         Arithmetic::Remainder,
     ];
     for operator in arithmetic {
-        let left = calculated(alloc, null(), operator, number(0))?;
-        assert_eq!(rt; alone(alloc, &left)?.as_str(), "null");
-        let right = calculated(alloc, number(0), operator, null())?;
-        assert_eq!(rt; alone(alloc, &right)?.as_str(), "null");
+        assert!(rt;
+            gives(
+                alloc,
+                calculated(alloc, null(), operator, number(0)),
+                "null"
+            )
+        );
+        assert!(rt;
+            gives(
+                alloc,
+                calculated(alloc, number(0), operator, null()),
+                "null"
+            )
+        );
     }
-    let joined = binary(alloc, string(alloc, "a")?, 0, Operator::Concat, null())?;
-    assert_eq!(rt; alone(alloc, &joined)?.as_str(), "null");
-    let measured = length(alloc, null())?;
-    assert_eq!(rt; alone(alloc, &measured)?.as_str(), "null");
-    Ok(())
+    assert!(rt;
+        gives(
+            alloc,
+            binary(alloc, string(alloc, "a"), 0, Operator::Concat, null()),
+            "null"
+        )
+    );
+    assert!(rt; gives(alloc, length(alloc, null()), "null"));
 }
 
 #[test]
-fn lists_and_ranges(rt: HostRuntime) -> Result<(), Fail> {
+fn lists_and_ranges(rt: HostRuntime) {
     let alloc = rt.alloc();
     let lists: [(Option<i64>, Option<i64>, Option<i64>, &str, &str); 6] = [
         (Some(1), Some(1), None, "t", "f"),
@@ -196,16 +203,26 @@ fn lists_and_ranges(rt: HostRuntime) -> Result<(), Fail> {
         (None, Some(1), Some(3), "null", "null"),
     ];
     for (value, first, second, wanted, denied) in lists {
-        let is_in = within(
-            alloc,
-            false,
-            integer(value),
-            integer(first),
-            integer(second),
-        )?;
-        assert_eq!(rt; alone(alloc, &is_in)?.as_str(), wanted);
-        let not_in = within(alloc, true, integer(value), integer(first), integer(second))?;
-        assert_eq!(rt; alone(alloc, &not_in)?.as_str(), denied);
+        assert!(rt;
+            gives(
+                alloc,
+                within(
+                    alloc,
+                    false,
+                    integer(value),
+                    integer(first),
+                    integer(second),
+                ),
+                wanted
+            )
+        );
+        assert!(rt;
+            gives(
+                alloc,
+                within(alloc, true, integer(value), integer(first), integer(second)),
+                denied
+            )
+        );
     }
     let ranges: [(Option<i64>, Option<i64>, Option<i64>, &str, &str); 7] = [
         (Some(5), Some(7), None, "f", "t"),
@@ -217,42 +234,88 @@ fn lists_and_ranges(rt: HostRuntime) -> Result<(), Fail> {
         (None, Some(1), Some(4), "null", "null"),
     ];
     for (value, low, high, wanted, denied) in ranges {
-        let is_between = between(alloc, false, integer(value), integer(low), integer(high))?;
-        assert_eq!(rt; alone(alloc, &is_between)?.as_str(), wanted);
-        let not_between = between(alloc, true, integer(value), integer(low), integer(high))?;
-        assert_eq!(rt; alone(alloc, &not_between)?.as_str(), denied);
+        assert!(rt;
+            gives(
+                alloc,
+                between(alloc, false, integer(value), integer(low), integer(high)),
+                wanted
+            )
+        );
+        assert!(rt;
+            gives(
+                alloc,
+                between(alloc, true, integer(value), integer(low), integer(high)),
+                denied
+            )
+        );
     }
-    Ok(())
 }
 
 #[test]
-fn faults_and_stops(rt: HostRuntime) -> Result<(), Fail> {
+fn faults_and_stops(rt: HostRuntime) {
     let alloc = rt.alloc();
-    let and = binary(alloc, truth(NO), 0, Operator::And, faulty_truth(alloc)?)?;
-    assert_eq!(rt; alone(alloc, &and)?.as_str(), "f");
-    let or = binary(alloc, truth(YES), 0, Operator::Or, faulty_truth(alloc)?)?;
-    assert_eq!(rt; alone(alloc, &or)?.as_str(), "t");
-    let left = binary(alloc, faulty_truth(alloc)?, 0, Operator::And, truth(NO))?;
-    assert_eq!(rt; alone(alloc, &left)?.as_str(), "DivZero");
-    let unknown = binary(alloc, truth(None), 0, Operator::And, faulty_truth(alloc)?)?;
-    assert_eq!(rt; alone(alloc, &unknown)?.as_str(), "DivZero");
-    let first = coalesce(alloc, number(1), faulty(alloc)?)?;
-    assert_eq!(rt; alone(alloc, &first)?.as_str(), "1");
-    let second = coalesce(alloc, null(), number(2))?;
-    assert_eq!(rt; alone(alloc, &second)?.as_str(), "2");
-    let late = within(alloc, false, number(1), number(1), faulty(alloc)?)?;
-    assert_eq!(rt; alone(alloc, &late)?.as_str(), "t");
-    let early = within(alloc, false, number(1), faulty(alloc)?, number(1))?;
-    assert_eq!(rt; alone(alloc, &early)?.as_str(), "DivZero");
-    let below = between(alloc, false, number(1), number(2), faulty(alloc)?)?;
-    assert_eq!(rt; alone(alloc, &below)?.as_str(), "f");
-    let null_first = calculated(alloc, null(), Arithmetic::Add, faulty(alloc)?)?;
-    assert_eq!(rt; alone(alloc, &null_first)?.as_str(), "DivZero");
-    Ok(())
+    assert!(rt;
+        gives(
+            alloc,
+            binary(alloc, truth(NO), 0, Operator::And, faulty_truth(alloc)),
+            "f"
+        )
+    );
+    assert!(rt;
+        gives(
+            alloc,
+            binary(alloc, truth(YES), 0, Operator::Or, faulty_truth(alloc)),
+            "t"
+        )
+    );
+    assert!(rt;
+        gives(
+            alloc,
+            binary(alloc, faulty_truth(alloc), 0, Operator::And, truth(NO)),
+            "DivZero"
+        )
+    );
+    assert!(rt;
+        gives(
+            alloc,
+            binary(alloc, truth(None), 0, Operator::And, faulty_truth(alloc)),
+            "DivZero"
+        )
+    );
+    assert!(rt; gives(alloc, coalesce(alloc, number(1), faulty(alloc)), "1"));
+    assert!(rt; gives(alloc, coalesce(alloc, null(), number(2)), "2"));
+    assert!(rt;
+        gives(
+            alloc,
+            within(alloc, false, number(1), number(1), faulty(alloc)),
+            "t"
+        )
+    );
+    assert!(rt;
+        gives(
+            alloc,
+            within(alloc, false, number(1), faulty(alloc), number(1)),
+            "DivZero"
+        )
+    );
+    assert!(rt;
+        gives(
+            alloc,
+            between(alloc, false, number(1), number(2), faulty(alloc)),
+            "f"
+        )
+    );
+    assert!(rt;
+        gives(
+            alloc,
+            calculated(alloc, null(), Arithmetic::Add, faulty(alloc)),
+            "DivZero"
+        )
+    );
 }
 
 #[test]
-fn strings_take_the_kind_of_the_other_side(rt: HostRuntime) -> Result<(), Fail> {
+fn strings_take_the_kind_of_the_other_side(rt: HostRuntime) {
     let alloc = rt.alloc();
     let sums: [(&str, &str); 4] = [
         (" 7 ", "12"),
@@ -261,57 +324,93 @@ fn strings_take_the_kind_of_the_other_side(rt: HostRuntime) -> Result<(), Fail> 
         ("2147483647", "Range"),
     ];
     for (text, wanted) in sums {
-        let expr = calculated(alloc, number(5), Arithmetic::Add, string(alloc, text)?)?;
-        assert_eq!(rt; alone(alloc, &expr)?.as_str(), wanted);
+        assert!(rt;
+            gives(
+                alloc,
+                calculated(alloc, number(5), Arithmetic::Add, string(alloc, text)),
+                wanted
+            )
+        );
     }
-    let read_first = calculated(alloc, string(alloc, "x")?, Arithmetic::Add, faulty(alloc)?)?;
-    assert_eq!(rt; alone(alloc, &read_first)?.as_str(), "Cast(BadText)");
-    let day = compared(
-        alloc,
-        string(alloc, "2024-02-29")?,
-        Comparison::Equal,
-        date(alloc, "2024-02-29")?,
-    )?;
-    assert_eq!(rt; alone(alloc, &day)?.as_str(), "t");
-    let texts = compared(
-        alloc,
-        string(alloc, "b")?,
-        Comparison::Greater,
-        string(alloc, "a")?,
-    )?;
-    assert_eq!(rt; alone(alloc, &texts)?.as_str(), "t");
-    let denied = prefixed(alloc, 0, Prefix::Not, string(alloc, "yes")?)?;
-    assert_eq!(rt; alone(alloc, &denied)?.as_str(), "f");
-    let listed = within(alloc, false, string(alloc, "09")?, number(8), number(9))?;
-    assert_eq!(rt; alone(alloc, &listed)?.as_str(), "t");
-    let filled = coalesce(alloc, string(alloc, "07")?, number(1))?;
-    assert_eq!(rt; alone(alloc, &filled)?.as_str(), "7");
-    let bad = coalesce(alloc, string(alloc, "x")?, number(1))?;
-    assert_eq!(rt; alone(alloc, &bad)?.as_str(), "Cast(BadText)");
-    let columns = pair(alloc, Kind::Varchar(5), Kind::Smallint)?;
-    let values = row(alloc, Value::Text(Txt::new(alloc, "short")?), Value::Int(1))?;
+    assert!(rt;
+        gives(
+            alloc,
+            calculated(alloc, string(alloc, "x"), Arithmetic::Add, faulty(alloc)),
+            "Cast(BadText)"
+        )
+    );
+    assert!(rt;
+        gives(
+            alloc,
+            compared(
+                alloc,
+                string(alloc, "2024-02-29"),
+                Comparison::Equal,
+                date(alloc, "2024-02-29"),
+            ),
+            "t"
+        )
+    );
+    assert!(rt;
+        gives(
+            alloc,
+            compared(
+                alloc,
+                string(alloc, "b"),
+                Comparison::Greater,
+                string(alloc, "a"),
+            ),
+            "t"
+        )
+    );
+    assert!(rt;
+        gives(
+            alloc,
+            prefixed(alloc, 0, Prefix::Not, string(alloc, "yes")),
+            "f"
+        )
+    );
+    assert!(rt;
+        gives(
+            alloc,
+            within(alloc, false, string(alloc, "09"), number(8), number(9)),
+            "t"
+        )
+    );
+    assert!(rt; gives(alloc, coalesce(alloc, string(alloc, "07"), number(1)), "7"));
+    assert!(rt;
+        gives(
+            alloc,
+            coalesce(alloc, string(alloc, "x"), number(1)),
+            "Cast(BadText)"
+        )
+    );
     let longer = compared(
         alloc,
-        name(alloc, 0, "a")?,
+        name(alloc, 0, "a"),
         Comparison::Equal,
-        string(alloc, "longer text")?,
-    )?;
-    assert_eq!(rt; told(alloc, &longer, &columns, &values)?.as_str(), "f");
+        string(alloc, "longer text"),
+    );
+    assert!(rt; gives_on_texts(alloc, longer, "short", "", "f"));
     let small = calculated(
         alloc,
-        string(alloc, "40000")?,
+        string(alloc, "40000"),
         Arithmetic::Add,
-        name(alloc, 0, "b")?,
-    )?;
-    assert_eq!(rt;
-        told(alloc, &small, &columns, &values)?.as_str(),
-        "Cast(OutOfRange)"
+        name(alloc, 0, "a"),
     );
-    Ok(())
+    assert!(rt;
+        gives_on(
+            alloc,
+            small,
+            (Kind::Smallint, Kind::Smallint),
+            (1, 1),
+            "Cast(OutOfRange)"
+        )
+    );
 }
 
 #[test]
-fn dates(rt: HostRuntime) -> Result<(), Fail> {
+fn dates(rt: HostRuntime) {
     let alloc = rt.alloc();
     let rows: [(&str, Arithmetic, i64, &str); 8] = [
         ("2024-02-28", Arithmetic::Add, 2, "2024-03-01"),
@@ -324,29 +423,42 @@ fn dates(rt: HostRuntime) -> Result<(), Fail> {
         ("2024-01-01", Arithmetic::Add, i64::MAX, "Range"),
     ];
     for (text, operator, days, wanted) in rows {
-        let expr = calculated(alloc, date(alloc, text)?, operator, number(days))?;
-        assert_eq!(rt; alone(alloc, &expr)?.as_str(), wanted);
+        assert!(rt;
+            gives(
+                alloc,
+                calculated(alloc, date(alloc, text), operator, number(days)),
+                wanted
+            )
+        );
     }
-    let swapped = calculated(
-        alloc,
-        number(1),
-        Arithmetic::Add,
-        date(alloc, "1999-12-31")?,
-    )?;
-    assert_eq!(rt; alone(alloc, &swapped)?.as_str(), "2000-01-01");
-    let days = calculated(
-        alloc,
-        date(alloc, "2024-03-01")?,
-        Arithmetic::Subtract,
-        date(alloc, "2024-02-28")?,
-    )?;
-    assert_eq!(rt; alone(alloc, &days)?.as_str(), "2");
-    assert_eq!(rt; kind_alone(alloc, &days), Ok(Typed::Known(Kind::Integer)));
-    Ok(())
+    assert!(rt;
+        gives(
+            alloc,
+            calculated(
+                alloc,
+                number(1),
+                Arithmetic::Add,
+                date(alloc, "1999-12-31"),
+            ),
+            "2000-01-01"
+        )
+    );
+    assert!(rt;
+        gives(
+            alloc,
+            calculated(
+                alloc,
+                date(alloc, "2024-03-01"),
+                Arithmetic::Subtract,
+                date(alloc, "2024-02-28"),
+            ),
+            "2"
+        )
+    );
 }
 
 #[test]
-fn casts(rt: HostRuntime) -> Result<(), Fail> {
+fn casts(rt: HostRuntime) {
     let alloc = rt.alloc();
     let rows: [(&str, Kind, &str); 6] = [
         ("12", Kind::Integer, "12"),
@@ -357,77 +469,43 @@ fn casts(rt: HostRuntime) -> Result<(), Fail> {
         ("abc", Kind::Text, "abc"),
     ];
     for (text, to, wanted) in rows {
-        let expr = cast(alloc, string(alloc, text)?, 0, to)?;
-        assert_eq!(rt; alone(alloc, &expr)?.as_str(), wanted);
-        assert_eq!(rt; kind_alone(alloc, &expr), Ok(Typed::Known(to)));
+        assert!(rt; gives(alloc, cast(alloc, string(alloc, text), &[to]), wanted));
     }
-    let of_truth = cast(alloc, truth(YES), 0, Kind::Integer)?;
-    assert_eq!(rt; alone(alloc, &of_truth)?.as_str(), "1");
-    let of_number = cast(alloc, number(0), 0, Kind::Boolean)?;
-    assert_eq!(rt; alone(alloc, &of_number)?.as_str(), "f");
-    let mut casts = Items::new(alloc);
-    for to in [Kind::Integer, Kind::Text, Kind::Varchar(1)] {
-        casts.push((0, to))?;
-    }
-    let row = Expr::Casts(Boxed::new(alloc, string(alloc, "0042")?)?, casts);
-    assert_eq!(rt; alone(alloc, &row)?.as_str(), "4");
-    Ok(())
+    assert!(rt; gives(alloc, cast(alloc, truth(YES), &[Kind::Integer]), "1"));
+    assert!(rt; gives(alloc, cast(alloc, number(0), &[Kind::Boolean]), "f"));
+    let kinds = [Kind::Integer, Kind::Text, Kind::Varchar(1)];
+    assert!(rt; gives(alloc, cast(alloc, string(alloc, "0042"), &kinds), "4"));
 }
 
 #[test]
-fn long_texts(rt: HostRuntime) -> Result<(), Fail> {
+fn long_texts(rt: HostRuntime) {
     let alloc = rt.alloc();
-    let mut text = String::new(alloc);
-    for _ in 0..8192 {
-        text.push_str("a")?;
-    }
-    let columns = pair(alloc, Kind::Text, Kind::Text)?;
-    let values = row(
-        alloc,
-        Value::Text(Txt::from_string(text)),
-        Value::Text(Txt::new(alloc, "é")?),
-    )?;
-    let fits = binary(
-        alloc,
-        name(alloc, 0, "a")?,
-        0,
-        Operator::Concat,
-        string(alloc, "")?,
-    )?;
-    assert!(rt; eval(alloc, &fits, &columns, &values).is_ok());
+    let half = [b'a'; 4096];
+    let Ok(half) = std::str::from_utf8(&half) else {
+        return
+    };
     let joined = binary(
         alloc,
-        name(alloc, 0, "a")?,
+        name(alloc, 0, "b"),
         0,
         Operator::Concat,
-        name(alloc, 1, "b")?,
-    )?;
-    let wanted = Err(Cant::Why(EvalFault::TooLong { bytes: 8194 }));
-    assert_eq!(rt; eval(alloc, &joined, &columns, &values), wanted);
-    let characters = length(alloc, name(alloc, 1, "b")?)?;
-    assert_eq!(rt; told(alloc, &characters, &columns, &values)?.as_str(), "1");
-    Ok(())
-}
-
-fn kind_on(
-    alloc: Global,
-    a: Kind,
-    operator: Operator,
-    b: Kind,
-) -> Result<Result<Typed, TypeFault>, NoMemory> {
-    let columns = pair(alloc, a, b)?;
-    let expr = binary(
+        name(alloc, 0, "b"),
+    );
+    assert!(rt; gives_on_texts(alloc, length(alloc, joined), "", half, "8192"));
+    let doubled = binary(
         alloc,
-        name(alloc, 0, "a")?,
-        2,
-        operator,
-        name(alloc, 4, "b")?,
-    )?;
-    Ok(kind_of(&expr, &columns))
+        name(alloc, 0, "b"),
+        0,
+        Operator::Concat,
+        name(alloc, 0, "b"),
+    );
+    let longer = binary(alloc, doubled, 0, Operator::Concat, name(alloc, 0, "a"));
+    assert!(rt; gives_on_texts(alloc, longer, "é", half, "TooLong { bytes: 8194 }"));
+    assert!(rt; gives_on_texts(alloc, length(alloc, name(alloc, 0, "a")), "né", half, "2"));
 }
 
 #[test]
-fn kinds_of_operators(rt: HostRuntime) -> Result<(), Fail> {
+fn kinds_of_operators(rt: HostRuntime) {
     let alloc = rt.alloc();
     let wrong = Err(TypeFault::WrongKind { place: 2 });
     let add = Operator::Calculate(Arithmetic::Add);
@@ -491,13 +569,13 @@ fn kinds_of_operators(rt: HostRuntime) -> Result<(), Fail> {
         (Kind::Integer, Operator::Or, Kind::Boolean, wrong),
     ];
     for (a, operator, b, wanted) in rows {
-        assert_eq!(rt; kind_on(alloc, a, operator, b)?, wanted);
+        let made = binary(alloc, name(alloc, 0, "a"), 2, operator, name(alloc, 4, "b"));
+        assert!(rt; has_kind_on(alloc, made, a, b, wanted));
     }
-    Ok(())
 }
 
 #[test]
-fn kinds_of_casts(rt: HostRuntime) -> Result<(), Fail> {
+fn kinds_of_casts(rt: HostRuntime) {
     let alloc = rt.alloc();
     let kinds = [
         Kind::Smallint,
@@ -518,22 +596,27 @@ fn kinds_of_casts(rt: HostRuntime) -> Result<(), Fail> {
         (Kind::Date, [false, false, false, false, true, true, true]),
     ];
     for (from, allowed) in rows {
-        let columns = pair(alloc, from, from)?;
         for (to, is_allowed) in kinds.iter().zip(allowed.iter()) {
-            let expr = cast(alloc, name(alloc, 0, "a")?, 1, *to)?;
             let wanted = if *is_allowed {
                 Ok(Typed::Known(*to))
             } else {
-                Err(TypeFault::WrongKind { place: 1 })
+                Err(TypeFault::WrongKind { place: 6 })
             };
-            assert_eq!(rt; kind_of(&expr, &columns), wanted);
+            assert!(rt;
+                has_kind_on(
+                    alloc,
+                    cast(alloc, name(alloc, 0, "a"), &[*to]),
+                    from,
+                    from,
+                    wanted
+                )
+            );
         }
     }
-    Ok(())
 }
 
 #[test]
-fn kinds_without_columns(rt: HostRuntime) -> Result<(), Fail> {
+fn kinds_without_columns(rt: HostRuntime) {
     let alloc = rt.alloc();
     let literals: [(i64, Kind); 3] = [
         (0, Kind::Integer),
@@ -541,98 +624,63 @@ fn kinds_without_columns(rt: HostRuntime) -> Result<(), Fail> {
         (2_147_483_648, Kind::Bigint),
     ];
     for (value, kind) in literals {
-        assert_eq!(rt; kind_alone(alloc, &number(value)), Ok(Typed::Known(kind)));
+        assert!(rt; has_kind(alloc, number(value), Ok(Typed::Known(kind))));
     }
-    assert_eq!(rt; kind_alone(alloc, &null()), Ok(Typed::Untyped));
-    assert_eq!(rt; kind_alone(alloc, &string(alloc, "1")?), Ok(Typed::Untyped));
-    let texts = coalesce(alloc, null(), string(alloc, "x")?)?;
-    assert_eq!(rt; kind_alone(alloc, &texts), Ok(Typed::Known(Kind::Text)));
-    let wide = coalesce(alloc, number(1), number(2_147_483_648))?;
-    assert_eq!(rt; kind_alone(alloc, &wide), Ok(Typed::Known(Kind::Bigint)));
-    let sign = prefixed(alloc, 9, Prefix::Minus, null())?;
-    assert_eq!(rt;
-        kind_alone(alloc, &sign),
-        Err(TypeFault::WrongKind { place: 9 })
+    assert!(rt; has_kind(alloc, null(), Ok(Typed::Untyped)));
+    assert!(rt; has_kind(alloc, string(alloc, "1"), Ok(Typed::Untyped)));
+    assert!(rt;
+        has_kind(
+            alloc,
+            coalesce(alloc, null(), string(alloc, "x")),
+            Ok(Typed::Known(Kind::Text))
+        )
     );
-    let unsigned = abs(alloc, null())?;
-    assert_eq!(rt;
-        kind_alone(alloc, &unsigned),
-        Err(TypeFault::WrongKind { place: 15 })
+    assert!(rt;
+        has_kind(
+            alloc,
+            coalesce(alloc, number(1), number(2_147_483_648)),
+            Ok(Typed::Known(Kind::Bigint))
+        )
     );
-    let sum = calculated(alloc, null(), Arithmetic::Add, string(alloc, "1")?)?;
-    assert_eq!(rt;
-        kind_alone(alloc, &sum),
-        Err(TypeFault::WrongKind { place: 11 })
+    assert!(rt; is_wrong_at(alloc, prefixed(alloc, 9, Prefix::Minus, null()), 9));
+    assert!(rt; is_wrong_at(alloc, abs(alloc, null()), 15));
+    assert!(rt; is_wrong_at(alloc, length(alloc, number(1)), 16));
+    assert!(rt;
+        is_wrong_at(
+            alloc,
+            calculated(alloc, null(), Arithmetic::Add, string(alloc, "1")),
+            11
+        )
     );
     let shifted = calculated(
         alloc,
-        date(alloc, "2024-01-01")?,
+        date(alloc, "2024-01-01"),
         Arithmetic::Add,
-        string(alloc, "5")?,
-    )?;
-    assert_eq!(rt;
-        kind_alone(alloc, &shifted),
-        Err(TypeFault::WrongKind { place: 11 })
+        string(alloc, "5"),
     );
-    let measured = length(alloc, number(1))?;
-    assert_eq!(rt;
-        kind_alone(alloc, &measured),
-        Err(TypeFault::WrongKind { place: 16 })
-    );
-    Ok(())
+    assert!(rt; is_wrong_at(alloc, shifted, 11));
 }
 
 #[test]
-fn first_fault_in_reading_order(rt: HostRuntime) -> Result<(), Fail> {
+fn first_fault_in_reading_order(rt: HostRuntime) {
     let alloc = rt.alloc();
-    let wrong = binary(alloc, number(1), 20, Operator::Concat, number(2))?;
-    let left = binary(alloc, wrong, 30, Operator::And, name(alloc, 40, "zz")?)?;
-    assert_eq!(rt;
-        kind_alone(alloc, &left),
-        Err(TypeFault::WrongKind { place: 20 })
-    );
-    let wrong = binary(alloc, number(1), 50, Operator::Concat, number(2))?;
-    let right = binary(alloc, name(alloc, 40, "zz")?, 45, Operator::And, wrong)?;
-    assert_eq!(rt;
-        kind_alone(alloc, &right),
-        Err(TypeFault::NoColumn { place: 40 })
-    );
-    let inner = binary(alloc, number(1), 60, Operator::And, truth(YES))?;
-    let outer = prefixed(alloc, 55, Prefix::Minus, inner)?;
-    assert_eq!(rt;
-        kind_alone(alloc, &outer),
-        Err(TypeFault::WrongKind { place: 60 })
-    );
-    Ok(())
-}
-
-/// `NOT (NOT (.. TRUE))`, with so many levels.
-fn nested(alloc: Global, levels: u32) -> Result<Expr, NoMemory> {
-    let mut expr = truth(YES);
-    for _ in 0..levels {
-        let operand = binary(alloc, expr, 1, Operator::And, truth(YES))?;
-        expr = prefixed(alloc, 1, Prefix::Not, operand)?;
-    }
-    Ok(expr)
-}
-
-/// `0 + 1 + 1 ..`, with so many operators.
-fn long_sum(alloc: Global, operators: u32) -> Result<Expr, NoMemory> {
-    let mut links = Items::new(alloc);
-    for _ in 0..operators {
-        links.push((1, Operator::Calculate(Arithmetic::Add), number(1)))?;
-    }
-    Ok(Expr::Chain(Boxed::new(alloc, number(0))?, links))
+    let wrong = binary(alloc, number(1), 20, Operator::Concat, number(2));
+    let left = binary(alloc, wrong, 30, Operator::And, name(alloc, 40, "zz"));
+    assert!(rt; is_wrong_at(alloc, left, 20));
+    let wrong = binary(alloc, number(1), 50, Operator::Concat, number(2));
+    let right = binary(alloc, name(alloc, 40, "zz"), 45, Operator::And, wrong);
+    assert!(rt; has_kind(alloc, right, Err(TypeFault::NoColumn { place: 40 })));
+    let inner = binary(alloc, number(1), 60, Operator::And, truth(YES));
+    assert!(rt; is_wrong_at(alloc, prefixed(alloc, 55, Prefix::Minus, inner), 60));
 }
 
 #[test]
-fn deep_and_long(rt: HostRuntime) -> Result<(), Fail> {
+fn deep_and_long(rt: HostRuntime) {
     let alloc = rt.alloc();
-    let deep = nested(alloc, 200)?.copied(alloc)?;
-    assert_eq!(rt; kind_alone(alloc, &deep), Ok(Typed::Known(Kind::Boolean)));
-    assert_eq!(rt; alone(alloc, &deep)?.as_str(), "t");
-    let long = long_sum(alloc, 30_000)?.copied(alloc)?;
-    assert_eq!(rt; kind_alone(alloc, &long), Ok(Typed::Known(Kind::Integer)));
-    assert_eq!(rt; alone(alloc, &long)?.as_str(), "30000");
-    Ok(())
+    let truth = Ok(Typed::Known(Kind::Boolean));
+    assert!(rt; has_kind(alloc, copy(alloc, nested(alloc, 200)), truth));
+    assert!(rt; gives(alloc, copy(alloc, nested(alloc, 200)), "t"));
+    let whole = Ok(Typed::Known(Kind::Integer));
+    assert!(rt; has_kind(alloc, copy(alloc, long_sum(alloc, 30_000)), whole));
+    assert!(rt; gives(alloc, copy(alloc, long_sum(alloc, 30_000)), "30000"));
 }
