@@ -1,0 +1,5 @@
+pub mod ChainLemmas
+pub mod KindNodes
+pub mod NominalNodes
+pub mod OperatorLemmas
+pub mod ValueNodes
