@@ -8,11 +8,11 @@ if [ ! -x "$program" ]; then
   exit 1
 fi
 
-# The nanoseconds of a run of al_bench on these words, as the median of some.
+# The nanoseconds of a run of al_bench on these words, as the median of some. Its input is the file `input`, where that is set.
 median() {
   local TIMEFORMAT='%3U %3S'
   for _ in $(seq "$runs"); do
-    { time "$program" "$@" >/dev/null || exit 1; } 2>&1
+    { time "$program" "$@" <"${input:-/dev/null}" >/dev/null || exit 1; } 2>&1
   done | awk '{ printf "%.0f\n", ($1 + $2) * 1000000000 }' | sort -n | awk '{ a[NR] = $1 } END { print a[int((NR + 1) / 2)] }'
 }
 
@@ -21,3 +21,18 @@ per() { awk -v more="$1" -v less="$2" -v count="$3" 'BEGIN { printf "%.1f", (mor
 
 # growth BEFORE AFTER: how many times as much; - where nothing stands before.
 growth() { awk -v a="${1:-0}" -v b="$2" 'BEGIN { if (a > 0) printf "%.2f", b / a; else printf "-" }'; }
+
+# sizes TASK KIND: a table's lines for inputs of 64 KB, 512 KB and 4 MB that `KIND BYTES` makes, which `al_bench TASK` reads. A run
+# reads 16 MB in all; that of reading nothing but the input is taken off.
+sizes() {
+  local most times count bytes ns before=
+  for most in 65536 524288 4194304; do
+    "$2" "$most" >"$input"
+    times=$((16777216 / most)) bytes=$(wc -c <"$input") count=$("$program" "$1" 1 <"$input")
+    [ "$count" -gt 0 ] || { echo "$2 of $bytes bytes is refused" >&2; exit 1; }
+    ns=$(per "$(median "$1" "$times")" "$(median "$1" 0)" "$times")
+    printf '%-8s %10d %8d %10s %8s %8s\n' "$2" "$bytes" "$count" "$(awk -v ns="$ns" 'BEGIN { printf "%.2f", ns / 1000000 }')" \
+      "$(awk -v bytes="$bytes" -v ns="$ns" 'BEGIN { printf "%.1f", bytes * 1000 / ns }')" "$(growth "$before" "$ns")"
+    before=$ns
+  done
+}

@@ -2,50 +2,85 @@
 //! printed, a sum that depends on all that was done. No clock is read here: the scripts time whole runs.
 #![tactic(auto)]
 
+mod check;
+mod input;
 mod queue;
 mod turn;
 mod words;
 
 use al_values::NoMemory;
 use std::alloc::Global;
+use std::io::{ErrorKind, Read};
 use std::process::ExitCode;
-use words::{Task, Work, task_of, words_of};
+use words::{Task, task_of, words_of};
 
 const USAGE: &str = "\
 usage: al_bench queue shared|shared-asks|queued|queued-asks SESSIONS TIMES
        al_bench turn insert|select|refused TURNS TIMES
+       al_bench spec TIMES <FILE
+       al_bench tokens TIMES <FILE
+       al_bench eval ROWS TIMES
 ";
 
-/// A line of the command line that isn't one of the usage.
-const BAD_WORD: u8 = 2;
+/// Why nothing was counted; the program's status.
+#[derive(Clone, Copy)]
+enum Stop {
+    /// The words aren't those of the usage.
+    BadWord = 2,
+    /// No memory was to be had.
+    NoMemory = 5,
+    /// The input couldn't be read.
+    ReadFault = 6,
+    /// The line couldn't be written.
+    WriteFault = 7,
+}
 
-/// Want of memory.
-const NO_MEMORY: u8 = 5;
+impl From<NoMemory> for Stop {
+    fn from(_error: NoMemory) -> Stop {
+        Stop::NoMemory
+    }
+}
 
-/// A line that couldn't be written.
-const WRITE_FAULT: u8 = 7;
+fn input_of(rt: &HostRuntime, alloc: Global) -> Result<Vec<u8>, Stop> {
+    let mut bytes = Vec::new(alloc);
+    match rt.reader().read_to_end(&mut bytes) {
+        Ok(_) => Ok(bytes),
+        Err(error) if error.kind() == ErrorKind::OutOfMemory => Err(Stop::NoMemory),
+        Err(_) => Err(Stop::ReadFault),
+    }
+}
 
-fn perform(alloc: Global, task: Task) -> Result<u64, NoMemory> {
-    match task.work {
-        Work::Queue(round) => queue::rounds(alloc, round, task.size, task.times),
-        Work::Turn(kind) => turn::journals(alloc, kind, task.size, task.times),
+fn perform(rt: &HostRuntime, alloc: Global, task: Task) -> Result<u64, Stop> {
+    let sum = match task {
+        Task::Queue {
+            round,
+            sessions,
+            times,
+        } => queue::rounds(alloc, round, sessions, times)?,
+        Task::Turn { kind, turns, times } => turn::journals(alloc, kind, turns, times)?,
+        Task::Spec { times } => input::specs(alloc, &input_of(rt, alloc)?, times)?,
+        Task::Tokens { times } => input::texts(alloc, input_of(rt, alloc)?, times)?,
+        Task::Eval { rows, times } => check::checks(alloc, rows, times)?,
+    };
+    Ok(sum)
+}
+
+fn run(rt: &HostRuntime, alloc: Global) -> Result<(), Stop> {
+    let words = words_of(rt, alloc)?;
+    let Some(task) = task_of(&words) else {
+        let _ = print!(rt; "{USAGE}");
+        return Err(Stop::BadWord);
+    };
+    let sum = perform(rt, alloc, task)?;
+    match println!(rt; "{sum}") {
+        Ok(()) => Ok(()),
+        Err(_) => Err(Stop::WriteFault),
     }
 }
 
 fn main(rt: HostRuntime) -> ExitCode {
-    let alloc = rt.alloc();
-    let Ok(words) = words_of(&rt, alloc) else {
-        return ExitCode::from(NO_MEMORY);
-    };
-    let Some(task) = task_of(&words) else {
-        let _ = print!(rt; "{USAGE}");
-        return ExitCode::from(BAD_WORD);
-    };
-    let Ok(sum) = perform(alloc, task) else {
-        return ExitCode::from(NO_MEMORY);
-    };
-    match println!(rt; "{sum}") {
+    match run(&rt, rt.alloc()) {
         Ok(()) => ExitCode::SUCCESS,
-        Err(_) => ExitCode::from(WRITE_FAULT),
+        Err(stop) => ExitCode::from(stop as u8),
     }
 }

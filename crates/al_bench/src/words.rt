@@ -7,24 +7,34 @@ use al_values::{NoMemory, Txt, Word};
 use std::alloc::Global;
 use std::env;
 
-/// What is done.
-#[derive(Clone, Copy)]
-pub enum Work {
-    /// Asks and releases of a lock table.
-    Queue(Round),
-    /// Turns of an engine.
-    Turn(Kind),
-}
-
 /// What is done, how much of it, and how often.
 #[derive(Clone, Copy)]
-pub struct Task {
-    /// What is done.
-    pub work: Work,
-    /// How much.
-    pub size: u32,
-    /// How often.
-    pub times: u32,
+pub enum Task {
+    /// Asks and releases of a lock table, by so many sessions.
+    Queue {
+        round: Round,
+        sessions: u32,
+        times: u32,
+    },
+    /// So many turns of an engine.
+    Turn {
+        kind: Kind,
+        turns: u32,
+        times: u32,
+    },
+    /// A spec file from standard input.
+    Spec {
+        times: u32,
+    },
+    /// A text of SQL from standard input.
+    Tokens {
+        times: u32,
+    },
+    /// A CHECK on so many rows.
+    Eval {
+        rows: u32,
+        times: u32,
+    },
 }
 
 /// The words without the program's name; none where they can't be had.
@@ -37,14 +47,6 @@ pub fn words_of(rt: &HostRuntime, alloc: Global) -> Result<Vec<Word>, NoMemory> 
         words.push(Txt::from_string(word))?;
     }
     Ok(words)
-}
-
-fn work_of(what: &str, kind: &str) -> Option<Work> {
-    match what {
-        "queue" => Some(Work::Queue(round_of(kind)?)),
-        "turn" => Some(Work::Turn(kind_of(kind)?)),
-        _ => None,
-    }
 }
 
 fn round_of(kind: &str) -> Option<Round> {
@@ -71,14 +73,44 @@ fn number_of(word: &Word) -> Option<u32> {
     word.as_str().parse::<u32>().ok()
 }
 
+fn task_on_input(what: &str, times: u32) -> Option<Task> {
+    match what {
+        "spec" => Some(Task::Spec { times }),
+        "tokens" => Some(Task::Tokens { times }),
+        _ => None,
+    }
+}
+
+fn task_of_kind(what: &str, kind: &str, size: u32, times: u32) -> Option<Task> {
+    match what {
+        "queue" => Some(Task::Queue {
+            round: round_of(kind)?,
+            sessions: size,
+            times,
+        }),
+        "turn" => Some(Task::Turn {
+            kind: kind_of(kind)?,
+            turns: size,
+            times,
+        }),
+        _ => None,
+    }
+}
+
 /// The task that the words name; none where they aren't one of the usage.
 pub fn task_of(words: &[Word]) -> Option<Task> {
-    let [what, kind, size, times] = words else {
-        return None;
-    };
-    Some(Task {
-        work: work_of(what.as_str(), kind.as_str())?,
-        size: number_of(size)?,
-        times: number_of(times)?,
-    })
+    match words {
+        [what, times] => task_on_input(what.as_str(), number_of(times)?),
+        [what, rows, times] if what.as_str() == "eval" => Some(Task::Eval {
+            rows: number_of(rows)?,
+            times: number_of(times)?,
+        }),
+        [what, kind, size, times] => task_of_kind(
+            what.as_str(),
+            kind.as_str(),
+            number_of(size)?,
+            number_of(times)?,
+        ),
+        _ => None,
+    }
 }

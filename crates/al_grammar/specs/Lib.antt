@@ -1,0 +1,5 @@
+pub mod Kinds
+pub mod Rules
+pub mod Laws
+pub mod Whole
+pub mod Skim

@@ -1,0 +1,22 @@
+-- A whole text of a grammar, and where tokens are none.
+use Rattle.std.specs.Prelude.{◌≡◌, ℕ, List, [], ◌∷◌, ◌++◌, length, Result, Ok, Err}
+use Rattle.al_grammar.specs.Rules.{Step, read, fault}
+
+-- The first token that can't stand where it stands, told by how many tokens are left from it on: what stands before it
+-- begins some text of the grammar, and no text begins with that and the token. None are left where tokens end too early.
+pub record StopsAt {T A : Type 0} (Is : List T → A → Type 0) (ts : List T) (n : ℕ) : Type 0 where
+  pub before : List T
+  pub from : List T
+  pub split : ts ≡ before ++ from
+  pub place : n ≡ length from
+  pub more : List T
+  pub value : A
+  pub begins : Is (before ++ more) value
+  pub ends : (x : T) (others more : List T) (v : A) → from ≡ x ∷ others → Is (before ++ x ∷ more) v → ⊥
+  pub early : (v : A) → from ≡ [] → Is before v → ⊥
+
+-- a reader's answer on a whole text
+abbrev pub whole_of : {T A : Type 0} → Step T A → Result A ℕ
+whole_of (read v []) = Ok v
+whole_of (read v (t ∷ ts)) = Err (length (t ∷ ts))
+whole_of (fault n) = Err n

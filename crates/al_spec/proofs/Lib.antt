@@ -1,0 +1,15 @@
+pub mod Runs
+pub mod Slices
+pub mod Quotes
+pub mod Starts
+pub mod Pieces
+pub mod Unique
+pub mod FileLaws
+pub mod Readers
+pub mod Syntax
+pub mod Works
+pub mod Kept
+pub mod NoteParts
+pub mod Values
+pub mod Answer
+pub mod Known

@@ -1,0 +1,11 @@
+use Rattle.std.proofs.lemmas.Result.{err_from_is_err_and}
+use Rattle.al_spec.proofs.Readers.{session_end_on, session_end_off}
+use Rattle.al_spec.proofs.parse.session_end.Goals as goal
+
+pub returns-in_err-rest : goal.returns-in_err-rest
+returns-in_err-rest c =
+    let p = err_from_is_err_and c.from_residual.result c.from_residual.ensures.1 in
+    rw (p.1, p.2) (session_end_off _ _ c.in_err-rest.ensures)
+
+pub returns : goal.returns
+returns c = rw (session_end_on c.args.tokens.now c.in_ok-rest.rest.now c.in_ok-rest.ensures) c.optional_block.ensures

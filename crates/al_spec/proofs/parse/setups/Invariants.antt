@@ -1,0 +1,12 @@
+use Rattle.std.proofs.Common.{◌≡◌, length}
+use Rattle.al_grammar.specs.Rules.{many}
+use Rattle.al_grammar.specs.Skim.{skim}
+use Rattle.al_spec.specs.declared.kinds.Kind.TheVariants as kinds
+use Rattle.al_spec.specs.Grammar.{kind_of, block_after}
+use Rattle.al_spec.proofs.parse.setups.Given as goal
+
+abbrev pub invariant-loop-rest : goal.invariant-loop-rest
+invariant-loop-rest l = skim ((many kind_of (block_after kinds.Setup)).reads l.tokens) ≡ skim ((many kind_of (block_after kinds.Setup)).reads l.rest)
+
+abbrev pub decreases-loop-rest : goal.decreases-loop-rest
+decreases-loop-rest l = length l.rest

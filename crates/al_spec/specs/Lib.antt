@@ -1,0 +1,6 @@
+pub mod Bytes
+pub mod Tokens
+pub mod Grammar
+pub mod Notes
+pub mod Indexed
+pub mod Files
