@@ -1,6 +1,7 @@
 #!/usr/bin/env bash
-# Times the evaluation of a CHECK of ten nodes, a + b > 0 AND NOT a < 0, over 100,000 rows of two integers, all of which pass.
-# Prints nanoseconds for each row and each node, as the difference of runs that evaluate it and one that only makes the rows.
+# Times the evaluation of a CHECK of ten nodes, a + b > 0 AND NOT a < 0, over up to 100,000 rows of two integers, which all
+# but one pass. Prints nanoseconds for each row and for each node, as the difference of runs that evaluate it and one that
+# only makes the rows, and how many times as much a row takes as among fewer rows.
 # Usage: bench/eval.sh [RUNS]   (how often each is timed; 7 where not given)
 set -eu
 cd "$(dirname "$0")/.."

@@ -54,4 +54,4 @@ names() {
 }
 
 printf '%-8s %10s %8s %10s %8s %8s\n' kind bytes parts ms MB/s growth
-for kind in steps names; do sizes spec "$kind"; done
+for kind in steps names; do sizes spec "$kind" 32; done

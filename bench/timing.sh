@@ -1,5 +1,5 @@
 # What the scripts that time al_bench have in common. They source this file at the top of the repository, with `runs` set:
-# how often each run is timed. The times are those of the processor, which other programs that run at the same time disturb least.
+# how often each run is timed. The times are the processor's, which programs that run beside it change least.
 set -o pipefail
 program=crates/al_bench/out/al_bench
 [[ $runs =~ ^[1-9][0-9]*$ ]] || { echo "how often? a number from 1 on" >&2; exit 1; }
@@ -8,7 +8,7 @@ if [ ! -x "$program" ]; then
   exit 1
 fi
 
-# The nanoseconds of a run of al_bench on these words, as the median of some. Its input is the file `input`, where that is set.
+# The nanoseconds of a run of al_bench on these words, as the median of some. It reads the file `input`, where that is set.
 median() {
   local TIMEFORMAT='%3U %3S'
   for _ in $(seq "$runs"); do
@@ -22,16 +22,16 @@ per() { awk -v more="$1" -v less="$2" -v count="$3" 'BEGIN { printf "%.1f", (mor
 # growth BEFORE AFTER: how many times as much; - where nothing stands before.
 growth() { awk -v a="${1:-0}" -v b="$2" 'BEGIN { if (a > 0) printf "%.2f", b / a; else printf "-" }'; }
 
-# sizes TASK KIND: a table's lines for inputs of 64 KB, 512 KB and 4 MB that `KIND BYTES` makes, which `al_bench TASK` reads. A run
-# reads 16 MB in all; that of reading nothing but the input is taken off.
+# sizes TASK KIND MEGABYTES: a table's lines for inputs of 64 KB, 512 KB and 4 MB that `KIND BYTES` makes and `al_bench TASK`
+# reads, in each run so often that it makes so many megabytes in all. The time of reading the input alone is taken off.
 sizes() {
   local most times count bytes ns before=
   for most in 65536 524288 4194304; do
     "$2" "$most" >"$input"
-    times=$((16777216 / most)) bytes=$(wc -c <"$input") count=$("$program" "$1" 1 <"$input")
+    times=$(($3 * 1048576 / most)) bytes=$(wc -c <"$input") count=$("$program" "$1" 1 <"$input")
     [ "$count" -gt 0 ] || { echo "$2 of $bytes bytes is refused" >&2; exit 1; }
     ns=$(per "$(median "$1" "$times")" "$(median "$1" 0)" "$times")
-    printf '%-8s %10d %8d %10s %8s %8s\n' "$2" "$bytes" "$count" "$(awk -v ns="$ns" 'BEGIN { printf "%.2f", ns / 1000000 }')" \
+    printf '%-8s %10d %8d %10s %8s %8s\n' "$2" "$bytes" "$count" "$(awk -v ns="$ns" 'BEGIN { printf "%.3f", ns / 1000000 }')" \
       "$(awk -v bytes="$bytes" -v ns="$ns" 'BEGIN { printf "%.1f", bytes * 1000 / ns }')" "$(growth "$before" "$ns")"
     before=$ns
   done

@@ -25,4 +25,5 @@ quoted() {
 }
 
 printf '%-8s %10s %8s %10s %8s %8s\n' kind bytes tokens ms MB/s growth
-for kind in mixed quoted; do sizes tokens "$kind"; done
+sizes tokens mixed 128
+sizes tokens quoted 2048

@@ -2,7 +2,8 @@
 # Times a `give` and the `turn` that runs its statement, by the entries of the journal: INSERT of one row, SELECT of an empty
 # table, and ALTER TABLE that is refused, none of which has more to do in a longer history. Prints nanoseconds for each
 # turn of the second half of a journal, as the difference of runs with whole and with half journals, and how many times
-# as much it is in the longer journal.
+# as much it is as in a journal of a tenth of the entries. A turn that walked the journal would take 10 times as long; what
+# growth there is comes with memory that is new to the process and its caches.
 # Usage: bench/turn.sh [RUNS]   (how often each is timed; 7 where not given)
 set -eu
 cd "$(dirname "$0")/.."
@@ -16,7 +17,7 @@ printf '%10s %10s %10s %10s %8s\n' statement entries turns 'ns a turn' growth
 # A turn of INSERT or SELECT makes seven entries with its Give, a refused one six.
 for kind in insert:7 select:7 refused:6; do
   before=
-  for length in 10000 100000; do
+  for length in 10000 100000 1000000; do
     turns=$((length / ${kind#*:})) times=$((entries / length))
     half=$(median turn "${kind%:*}" $((turns / 2)) "$times")
     whole=$(median turn "${kind%:*}" "$turns" "$times")
