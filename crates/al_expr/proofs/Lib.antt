@@ -4,3 +4,4 @@ pub mod NominalLemmas
 pub mod NominalNodes
 pub mod OperatorLemmas
 pub mod ValueNodes
+mod Vectors
