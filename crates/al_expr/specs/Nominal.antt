@@ -1,5 +1,5 @@
 -- The kind of an expression that has one, without looking for faults: what evaluation goes by. It is the kind of
--- `kind_is` wherever that finds no fault (proofs/NominalLaw.antt).
+-- `kind_is` wherever that finds no fault (the clause `nominal` of `kind_of`).
 use Rattle.std.specs.Prelude.{ℕ, List, [], ◌∷◌, map, Option, Some, None}
 use Rattle.al_values.specs.declared.kinds.Kind.{Kind}
 use Rattle.al_values.specs.declared.kinds.Kind.TheVariants as kinds

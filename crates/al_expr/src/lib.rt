@@ -9,6 +9,7 @@ mod fault;
 mod held;
 mod kinds;
 mod nominal;
+mod sameness;
 #[cfg(test)]
 mod samples;
 #[cfg(test)]
@@ -22,5 +23,6 @@ pub use column::{Column, ColumnList};
 pub use evaluation::eval;
 pub use fault::EvalFault;
 pub use kinds::{TypeFault, Typed};
+pub use sameness::same;
 pub use tree::{Arithmetic, Comparison, Expr, Operator, Prefix};
 pub use typing::kind_of;

@@ -1,4 +1,5 @@
-ghost use Rattle.std.specs.Prelude.{◌≡◌};
+ghost use Rattle.std.specs.Prelude.{◌≡◌, IfOk};
+ghost use Rattle.al_expr.specs.Nominal.{nominal, chain_gives, prefixed_gives, casts_gives, shared_by, links_nominal, items_nominal};
 ghost use Rattle.al_expr.specs.Typing.{kind_is, literal_kind, ruled, alike, first_kind, chain_kind, prefixed_kind, casts_kind, tests_kind, shared_kind, links_kinds, items_kinds};
 
 use crate::column::column_kind;
@@ -11,15 +12,17 @@ use al_values::{Kind, Value};
 /// The kind of an expression on these columns, or the first node in reading order that is at fault (the manual,
 /// chapter 10). A node with an operand at fault is no fault of its own.
 pub fn kind_of(expr: &Expr, columns: &ColumnList) -> Result<Typed, TypeFault>
-    ensures { result ≡ kind_is expr.now columns.now }
+    ensures kind { result ≡ kind_is expr.now columns.now }
+    ensures nominal { IfOk result (λ typed. nominal expr.now columns.now ≡ typed) }
 {
     typed(expr, columns.as_slice())
 }
 
-#[tactic(auto, using(crate::proofs::KindNodes::kind_nodes))]
+#[tactic(auto, using(crate::proofs::KindNodes::kind_nodes, crate::proofs::NominalNodes::nominal_nodes, crate::proofs::NominalLemmas::node_agrees))]
 #[cycle(typing)]
 fn typed(expr: &Expr, columns: &[Column]) -> Result<Typed, TypeFault>
-    ensures { result ≡ kind_is expr.now columns.now }
+    ensures kind { result ≡ kind_is expr.now columns.now }
+    ensures nominal { IfOk result (λ typed. nominal expr.now columns.now ≡ typed) }
 {
     match expr {
         Expr::Literal(_, value) => Ok(literal_kind(value)),
@@ -71,14 +74,15 @@ fn typed(expr: &Expr, columns: &[Column]) -> Result<Typed, TypeFault>
 }
 
 /// Operators in a row.
-#[tactic(auto, unfolding(crate::specs::Typing::links_kinds))]
+#[tactic(auto, using(crate::proofs::NominalLemmas::operator_agrees), unfolding(crate::specs::Typing::links_kinds, crate::specs::Nominal::links_nominal))]
 #[cycle(typing)]
 fn typed_chain(
     first: Typed,
     links: &[(u32, Operator, Expr)],
     columns: &[Column],
 ) -> Result<Typed, TypeFault>
-    ensures { result ≡ chain_kind first (links_kinds columns.now links.now) }
+    ensures kind { result ≡ chain_kind first (links_kinds columns.now links.now) }
+    ensures nominal { IfOk result (λ typed. chain_gives first (links_nominal columns.now links.now) ≡ typed) }
 {
     let mut left = first;
     for link in links {
@@ -89,14 +93,15 @@ fn typed_chain(
 }
 
 /// The kind that operands share with what stands before them.
-#[tactic(auto, unfolding(crate::specs::Typing::items_kinds))]
+#[tactic(auto, unfolding(crate::specs::Typing::items_kinds, crate::specs::Nominal::items_nominal))]
 #[cycle(typing)]
 fn typed_items(
     first: Option<Typed>,
     items: &[Expr],
     columns: &[Column],
 ) -> Result<Option<Typed>, TypeFault>
-    ensures { result ≡ shared_kind first (items_kinds columns.now items.now) }
+    ensures kind { result ≡ shared_kind first (items_kinds columns.now items.now) }
+    ensures nominal { IfOk result (λ shared. shared_by first (items_nominal columns.now items.now) ≡ shared) }
 {
     let mut before = first;
     for item in items {
@@ -106,8 +111,10 @@ fn typed_items(
 }
 
 /// NOTs and signs in a row.
+#[tactic(auto, using(crate::proofs::NominalLemmas::prefix_agrees))]
 fn typed_prefixes(inner: Typed, prefixes: &[(u32, Prefix)]) -> Result<Typed, TypeFault>
-    ensures { result ≡ prefixed_kind inner prefixes.now }
+    ensures kind { result ≡ prefixed_kind inner prefixes.now }
+    ensures nominal { IfOk result (λ typed. prefixed_gives inner prefixes.now ≡ typed) }
 {
     let mut typed = inner;
     for (place, prefix) in prefixes {
@@ -117,8 +124,10 @@ fn typed_prefixes(inner: Typed, prefixes: &[(u32, Prefix)]) -> Result<Typed, Typ
 }
 
 /// Casts in a row.
+#[tactic(auto, using(crate::proofs::NominalLemmas::cast_agrees))]
 fn typed_casts(inner: Typed, casts: &[(u32, Kind)]) -> Result<Typed, TypeFault>
-    ensures { result ≡ casts_kind inner casts.now }
+    ensures kind { result ≡ casts_kind inner casts.now }
+    ensures nominal { IfOk result (λ typed. casts_gives inner casts.now ≡ typed) }
 {
     let mut typed = inner;
     for (place, to) in casts {
