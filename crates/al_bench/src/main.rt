@@ -1,23 +1,86 @@
-//! Reads a spec file from standard input and prints how many sessions, blocks and permutations it has, or its fault:
-//! the program that bench/spec.sh times.
+//! What bench/ times: the word says what the proved crates do, and the numbers how much and how often. One line is
+//! printed, a sum that depends on all that was done. No clock is read here: the scripts time whole runs.
 #![tactic(auto)]
 
-use al_spec::read_spec;
-use al_values::Cant;
-use std::io;
-use std::io::Read;
+mod check;
+mod input;
+mod queue;
+mod turn;
+mod words;
 
-fn main(rt: HostRuntime) -> io::Result<()> {
-    let mut bytes = Vec::new(rt.alloc());
-    rt.reader().read_to_end(&mut bytes)?;
-    match read_spec(rt.alloc(), &bytes) {
-        Ok(spec) => {
-            let sessions = spec.sessions.len();
-            let blocks = spec.blocks.len();
-            let permutations = spec.permutations.len();
-            println!(rt; "{sessions} sessions, {blocks} blocks, {permutations} permutations")
-        }
-        Err(Cant::Why(fault)) => println!(rt; "{fault:?}"),
-        Err(Cant::NoMemory) => println!(rt; "no memory"),
+use al_values::NoMemory;
+use std::alloc::Global;
+use std::io::{ErrorKind, Read};
+use std::process::ExitCode;
+use words::{Task, task_of, words_of};
+
+const USAGE: &str = "\
+usage: al_bench queue shared|shared-asks|queued|queued-asks SESSIONS TIMES
+       al_bench turn insert|select|refused TURNS TIMES
+       al_bench spec TIMES <FILE
+       al_bench tokens TIMES <FILE
+       al_bench eval ROWS TIMES
+";
+
+/// Why nothing was counted; the program's status.
+#[derive(Clone, Copy)]
+enum Stop {
+    /// The words aren't those of the usage.
+    BadWord = 2,
+    /// No memory was to be had.
+    NoMemory = 5,
+    /// The input couldn't be read.
+    ReadFault = 6,
+    /// The line couldn't be written.
+    WriteFault = 7,
+}
+
+impl From<NoMemory> for Stop {
+    fn from(_error: NoMemory) -> Stop {
+        Stop::NoMemory
+    }
+}
+
+fn input_of(rt: &HostRuntime, alloc: Global) -> Result<Vec<u8>, Stop> {
+    let mut bytes = Vec::new(alloc);
+    match rt.reader().read_to_end(&mut bytes) {
+        Ok(_) => Ok(bytes),
+        Err(error) if error.kind() == ErrorKind::OutOfMemory => Err(Stop::NoMemory),
+        Err(_) => Err(Stop::ReadFault),
+    }
+}
+
+fn perform(rt: &HostRuntime, alloc: Global, task: Task) -> Result<u64, Stop> {
+    let sum = match task {
+        Task::Queue {
+            round,
+            sessions,
+            times,
+        } => queue::rounds(alloc, round, sessions, times)?,
+        Task::Turn { kind, turns, times } => turn::journals(alloc, kind, turns, times)?,
+        Task::Spec { times } => input::specs(alloc, &input_of(rt, alloc)?, times)?,
+        Task::Tokens { times } => input::texts(alloc, input_of(rt, alloc)?, times)?,
+        Task::Eval { rows, times } => check::checks(alloc, rows, times)?,
+    };
+    Ok(sum)
+}
+
+fn run(rt: &HostRuntime, alloc: Global) -> Result<(), Stop> {
+    let words = words_of(rt, alloc)?;
+    let Some(task) = task_of(&words) else {
+        let _ = print!(rt; "{USAGE}");
+        return Err(Stop::BadWord);
+    };
+    let sum = perform(rt, alloc, task)?;
+    match println!(rt; "{sum}") {
+        Ok(()) => Ok(()),
+        Err(_) => Err(Stop::WriteFault),
+    }
+}
+
+fn main(rt: HostRuntime) -> ExitCode {
+    match run(&rt, rt.alloc()) {
+        Ok(()) => ExitCode::SUCCESS,
+        Err(stop) => ExitCode::from(stop as u8),
     }
 }

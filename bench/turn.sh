@@ -1,0 +1,28 @@
+#!/usr/bin/env bash
+# Times a `give` and the `turn` that runs its statement, by the entries of the journal: INSERT of one row, SELECT of an empty
+# table, and ALTER TABLE that is refused, none of which has more to do in a longer history. Prints nanoseconds for each
+# turn of the second half of a journal, as the difference of runs with whole and with half journals, and how many times
+# as much it is as in a journal of a tenth of the entries. A turn that walked the journal would take 10 times as long; what
+# growth there is comes with memory that is new to the process and its caches.
+# Usage: bench/turn.sh [RUNS]   (how often each is timed; 7 where not given)
+set -eu
+cd "$(dirname "$0")/.."
+runs=${1:-7}
+. bench/timing.sh
+
+# The entries of a run, all journals together.
+entries=8000000
+
+printf '%10s %10s %10s %10s %8s\n' statement entries turns 'ns a turn' growth
+# A turn of INSERT or SELECT makes seven entries with its Give, a refused one six.
+for kind in insert:7 select:7 refused:6; do
+  before=
+  for length in 10000 100000 1000000; do
+    turns=$((length / ${kind#*:})) times=$((entries / length))
+    half=$(median turn "${kind%:*}" $((turns / 2)) "$times")
+    whole=$(median turn "${kind%:*}" "$turns" "$times")
+    ns=$(per "$whole" "$half" $(((turns - turns / 2) * times)))
+    printf '%10s %10d %10d %10s %8s\n' "${kind%:*}" "$length" "$turns" "$ns" "$(growth "$before" "$ns")"
+    before=$ns
+  done
+done

@@ -1,0 +1,117 @@
+//! Turns of an engine with one session.
+ghost use Rattle.std.specs.Prelude.{◌≡◌, ◌∷◌, [], true, false, ◌<◌, Some, IfOk, OnOk, slice_get, option_map};
+ghost use Rattle.al_engine.specs.Ran.{AreSingle, IsSingle};
+ghost use Rattle.al_history.specs.Hand.{closed};
+ghost use Rattle.al_history.specs.Rules.{has_place};
+ghost use Rattle.al_history.specs.declared.statement.ScriptBlock.{ScriptBlock};
+
+use al_engine::{Engine, Told};
+use al_history::{Column, ScriptBlock, Scripts, Statement};
+use al_values::{ListOf, Name, NameList, NoMemory, Row, Value};
+use std::alloc::Global;
+
+/// The statement of each turn. The table has one column, and no row but those that are inserted.
+#[derive(Clone, Copy)]
+pub enum Kind {
+    /// INSERT of one row.
+    Insert,
+    /// SELECT of an empty table.
+    Select,
+    /// ALTER TABLE which is refused, since the table has the column.
+    Refused,
+}
+
+/// Makes as many journals of so many turns, and gives the count of their entries.
+pub fn journals(alloc: Global, kind: Kind, turns: u32, times: u32) -> Result<u64, NoMemory> {
+    let mut entries: u64 = 0;
+    for _ in 0..times {
+        entries = entries.wrapping_add(entries_of(alloc, kind, turns)?);
+    }
+    Ok(entries)
+}
+
+fn entries_of(alloc: Global, kind: Kind, turns: u32) -> Result<u64, NoMemory> {
+    let mut engine = Engine::open(alloc, scripts(alloc, kind)?)?;
+    run_block(alloc, &mut engine, 0)?;
+    go_on(alloc, &mut engine, turns)?;
+    Ok(u64::from(engine.history().len()))
+}
+
+fn go_on(alloc: Global, engine: &mut Engine, turns: u32) -> Result<(), NoMemory>
+    requires known { 0 < engine.old.scripts.sessions }
+    requires of_session { option_map (λ b. b.session) (slice_get engine.old.scripts.blocks 1) ≡ Some 0 }
+    requires not_closed { closed engine.old.past 0 ≡ false }
+{
+    for _ in 0..turns {
+        run_block(alloc, engine, 1)?;
+    }
+    Ok(())
+}
+
+/// Gives a block to the session, and goes on with it once, which runs all of it.
+fn run_block(alloc: Global, engine: &mut Engine, block: u32) -> Result<(), NoMemory>
+    requires known { 0 < engine.old.scripts.sessions }
+    requires of_session { option_map (λ b. b.session) (slice_get engine.old.scripts.blocks block) ≡ Some 0 }
+    requires not_closed { closed engine.old.past 0 ≡ false }
+    ensures not_closed { OnOk result (closed engine.new.past 0 ≡ false) }
+    ensures scripts { OnOk result (engine.new.scripts ≡ engine.old.scripts) }
+{
+    let Ok(()) = engine.give(alloc, 0, block) else {
+        return Err(NoMemory);
+    };
+    match engine.turn(alloc, 0)? {
+        Told::Went { .. } => Ok(()),
+        Told::Idle => Err(NoMemory),
+    }
+}
+
+/// CREATE TABLE as block 0, and the statement of each turn as block 1.
+fn scripts(alloc: Global, kind: Kind) -> Result<Scripts, NoMemory>
+    ensures sessions { IfOk result (λ s. s.sessions ≡ 1) }
+    ensures blocks { IfOk result (λ s. (a b : ScriptBlock) × (s.blocks ≡ a ∷ b ∷ []) × (a.session ≡ 0) × (b.session ≡ 0)) }
+    ensures single { IfOk result AreSingle }
+{
+    let mut columns = NameList::new(alloc);
+    columns.push(Name::new(alloc, "a")?)?;
+    let table = Name::new(alloc, "t")?;
+    let create = block_of(alloc, Statement::CreateTable { table, columns })?;
+    let turn = block_of(alloc, statement_of(alloc, kind)?)?;
+    let mut blocks = ListOf::new(alloc);
+    blocks.push(create)?;
+    blocks.push(turn)?;
+    Ok(Scripts {
+        sessions: 1,
+        blocks,
+    })
+}
+
+fn statement_of(alloc: Global, kind: Kind) -> Result<Statement, NoMemory>
+    ensures plain { IfOk result (λ s. has_place s ≡ true) }
+{
+    let table = Name::new(alloc, "t")?;
+    match kind {
+        Kind::Insert => {
+            let mut values = Row::new(alloc);
+            values.push(Value::Int(7))?;
+            Ok(Statement::Insert { table, values })
+        }
+        Kind::Select => Ok(Statement::Select { table }),
+        Kind::Refused => {
+            let name = Name::new(alloc, "a")?;
+            let default = Value::Null;
+            let column = Column { name, default };
+            Ok(Statement::AddColumn { table, column })
+        }
+    }
+}
+
+/// A block of the session with one statement.
+fn block_of(alloc: Global, statement: Statement) -> Result<ScriptBlock, NoMemory>
+    requires plain { has_place statement ≡ true }
+    ensures session { IfOk result (λ b. b.session ≡ 0) }
+    ensures single { IfOk result (IsSingle 1) }
+{
+    let mut script = ListOf::new(alloc);
+    script.push(statement)?;
+    Ok(ScriptBlock { session: 0, script })
+}

@@ -1,0 +1,116 @@
+//! The words of the command line.
+
+use crate::queue::Round;
+use crate::turn::Kind;
+use al_modes::Mode;
+use al_values::{NoMemory, Txt, Word};
+use std::alloc::Global;
+use std::env;
+
+/// What is done, how much of it, and how often.
+#[derive(Clone, Copy)]
+pub enum Task {
+    /// Asks and releases of a lock table, by so many sessions.
+    Queue {
+        round: Round,
+        sessions: u32,
+        times: u32,
+    },
+    /// So many turns of an engine.
+    Turn {
+        kind: Kind,
+        turns: u32,
+        times: u32,
+    },
+    /// A spec file from standard input.
+    Spec {
+        times: u32,
+    },
+    /// A text of SQL from standard input.
+    Tokens {
+        times: u32,
+    },
+    /// A CHECK on so many rows.
+    Eval {
+        rows: u32,
+        times: u32,
+    },
+}
+
+/// The words without the program's name; none where they can't be had.
+pub fn words_of(rt: &HostRuntime, alloc: Global) -> Result<Vec<Word>, NoMemory> {
+    let mut words = Vec::new(alloc);
+    let Ok(args) = env::args(rt) else {
+        return Ok(words);
+    };
+    for word in args.skip(1) {
+        words.push(Txt::from_string(word))?;
+    }
+    Ok(words)
+}
+
+fn round_of(kind: &str) -> Option<Round> {
+    let (mode, releases) = match kind {
+        "shared" => (Mode::AccessShare, true),
+        "shared-asks" => (Mode::AccessShare, false),
+        "queued" => (Mode::AccessExclusive, true),
+        "queued-asks" => (Mode::AccessExclusive, false),
+        _ => return None,
+    };
+    Some(Round { mode, releases })
+}
+
+fn kind_of(kind: &str) -> Option<Kind> {
+    match kind {
+        "insert" => Some(Kind::Insert),
+        "select" => Some(Kind::Select),
+        "refused" => Some(Kind::Refused),
+        _ => None,
+    }
+}
+
+fn number_of(word: &Word) -> Option<u32> {
+    word.as_str().parse::<u32>().ok()
+}
+
+fn task_on_input(what: &str, times: u32) -> Option<Task> {
+    match what {
+        "spec" => Some(Task::Spec { times }),
+        "tokens" => Some(Task::Tokens { times }),
+        _ => None,
+    }
+}
+
+fn task_of_kind(what: &str, kind: &str, size: u32, times: u32) -> Option<Task> {
+    match what {
+        "queue" => Some(Task::Queue {
+            round: round_of(kind)?,
+            sessions: size,
+            times,
+        }),
+        "turn" => Some(Task::Turn {
+            kind: kind_of(kind)?,
+            turns: size,
+            times,
+        }),
+        _ => None,
+    }
+}
+
+/// The task that the words name; none where they aren't one of the usage.
+pub fn task_of(words: &[Word]) -> Option<Task> {
+    match words {
+        [what, times] => task_on_input(what.as_str(), number_of(times)?),
+        [what, rows, times] if what.as_str() == "eval" => Some(Task::Eval {
+            rows: number_of(rows)?,
+            times: number_of(times)?,
+        }),
+        [what, kind, size, times] => task_of_kind(
+            what.as_str(),
+            kind.as_str(),
+            number_of(size)?,
+            number_of(times)?,
+        ),
+        _ => None,
+    }
+}

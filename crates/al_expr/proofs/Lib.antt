@@ -1,0 +1,7 @@
+pub mod ChainLemmas
+pub mod KindNodes
+pub mod NominalLemmas
+pub mod NominalNodes
+pub mod OperatorLemmas
+pub mod ValueNodes
+mod Vectors

@@ -1,0 +1,28 @@
+//! Expressions of SQL on the columns of one row: their trees, the kind of each, and its value.
+#![tactic(auto)]
+
+mod arithmetic;
+mod column;
+mod copying;
+mod evaluation;
+mod fault;
+mod held;
+mod kinds;
+mod nominal;
+mod sameness;
+#[cfg(test)]
+mod samples;
+#[cfg(test)]
+mod tests;
+mod texts;
+mod tree;
+mod typing;
+mod values;
+
+pub use column::{Column, ColumnList};
+pub use evaluation::eval;
+pub use fault::EvalFault;
+pub use kinds::{TypeFault, Typed};
+pub use sameness::same;
+pub use tree::{Arithmetic, Comparison, Expr, Operator, Prefix};
+pub use typing::kind_of;

@@ -1,0 +1,298 @@
+//! Small expressions for tests, and what they give.
+
+use crate::{
+    Arithmetic, Column, ColumnList, Comparison, Expr, Operator, Prefix, TypeFault, Typed, eval,
+    kind_of,
+};
+use al_values::{Cant, Copied, Kind, Name, NoMemory, Row, Txt, Value, print};
+use sqlite_items::{Boxed, Items};
+use std::alloc::Global;
+
+pub(crate) type Made = Result<Expr, NoMemory>;
+
+pub(crate) fn number(number: i64) -> Made {
+    Ok(Expr::Literal(1, Value::Int(number)))
+}
+
+pub(crate) fn null() -> Made {
+    Ok(Expr::Literal(2, Value::Null))
+}
+
+pub(crate) fn integer(value: Option<i64>) -> Made {
+    match value {
+        Some(value) => number(value),
+        None => null(),
+    }
+}
+
+pub(crate) fn truth(truth: Option<bool>) -> Made {
+    match truth {
+        Some(truth) => Ok(Expr::Literal(3, Value::Bool(truth))),
+        None => null(),
+    }
+}
+
+pub(crate) fn string(alloc: Global, text: &str) -> Made {
+    Ok(Expr::Literal(4, Value::Text(Txt::new(alloc, text)?)))
+}
+
+pub(crate) fn date(alloc: Global, text: &str) -> Made {
+    Ok(Expr::Date(5, Txt::new(alloc, text)?))
+}
+
+pub(crate) fn name(alloc: Global, place: u32, name: &str) -> Made {
+    Ok(Expr::Column(place, Name::new(alloc, name)?))
+}
+
+fn boxed(alloc: Global, made: Made) -> Result<Boxed<Expr>, NoMemory> {
+    Ok(Boxed::new(alloc, made?)?)
+}
+
+fn link(
+    alloc: Global,
+    place: u32,
+    operator: Operator,
+    right: Made,
+) -> Result<Items<(u32, Operator, Expr)>, NoMemory> {
+    let mut links = Items::new(alloc);
+    links.push((place, operator, right?))?;
+    Ok(links)
+}
+
+pub(crate) fn binary(
+    alloc: Global,
+    left: Made,
+    place: u32,
+    operator: Operator,
+    right: Made,
+) -> Made {
+    let left = boxed(alloc, left)?;
+    let links = link(alloc, place, operator, right)?;
+    Ok(Expr::Chain(left, links))
+}
+
+pub(crate) fn compared(alloc: Global, left: Made, comparison: Comparison, right: Made) -> Made {
+    binary(alloc, left, 10, Operator::Compare(comparison), right)
+}
+
+pub(crate) fn calculated(alloc: Global, left: Made, arithmetic: Arithmetic, right: Made) -> Made {
+    binary(alloc, left, 11, Operator::Calculate(arithmetic), right)
+}
+
+/// `1 / 0`
+pub(crate) fn faulty(alloc: Global) -> Made {
+    calculated(alloc, number(1), Arithmetic::Divide, number(0))
+}
+
+/// `1 / 0 = 1`
+pub(crate) fn faulty_truth(alloc: Global) -> Made {
+    compared(alloc, faulty(alloc), Comparison::Equal, number(1))
+}
+
+pub(crate) fn prefixed(alloc: Global, place: u32, prefix: Prefix, operand: Made) -> Made {
+    let operand = boxed(alloc, operand)?;
+    let mut prefixes = Items::new(alloc);
+    prefixes.push((place, prefix))?;
+    Ok(Expr::Prefixed(operand, prefixes))
+}
+
+pub(crate) fn cast(alloc: Global, operand: Made, kinds: &[Kind]) -> Made {
+    let operand = boxed(alloc, operand)?;
+    let mut casts = Items::new(alloc);
+    for kind in kinds {
+        casts.push((6, *kind))?;
+    }
+    Ok(Expr::Casts(operand, casts))
+}
+
+pub(crate) fn tested(alloc: Global, operand: Made, negations: &[bool]) -> Made {
+    let operand = boxed(alloc, operand)?;
+    let mut tests = Items::new(alloc);
+    for negated in negations {
+        tests.push((7, *negated))?;
+    }
+    Ok(Expr::IsNull(operand, tests))
+}
+
+pub(crate) fn between(alloc: Global, negated: bool, value: Made, low: Made, high: Made) -> Made {
+    let value = boxed(alloc, value)?;
+    let low = boxed(alloc, low)?;
+    let high = boxed(alloc, high)?;
+    Ok(Expr::Between(12, negated, value, low, high))
+}
+
+fn two(alloc: Global, first: Made, second: Made) -> Result<Items<Expr>, NoMemory> {
+    let mut items = Items::new(alloc);
+    items.push(first?)?;
+    items.push(second?)?;
+    Ok(items)
+}
+
+pub(crate) fn within(alloc: Global, negated: bool, value: Made, first: Made, second: Made) -> Made {
+    let value = boxed(alloc, value)?;
+    let items = two(alloc, first, second)?;
+    Ok(Expr::In(13, negated, value, items))
+}
+
+pub(crate) fn coalesce(alloc: Global, first: Made, second: Made) -> Made {
+    Ok(Expr::Coalesce(14, two(alloc, first, second)?))
+}
+
+pub(crate) fn abs(alloc: Global, operand: Made) -> Made {
+    Ok(Expr::Abs(15, boxed(alloc, operand)?))
+}
+
+pub(crate) fn length(alloc: Global, operand: Made) -> Made {
+    Ok(Expr::Length(16, boxed(alloc, operand)?))
+}
+
+/// `NOT (NOT (.. TRUE AND TRUE) AND TRUE)`, with so many levels.
+pub(crate) fn nested(alloc: Global, levels: u32) -> Made {
+    let mut made = truth(Some(true));
+    for _ in 0..levels {
+        let operand = binary(alloc, made, 1, Operator::And, truth(Some(true)));
+        made = prefixed(alloc, 1, Prefix::Not, operand);
+    }
+    made
+}
+
+/// `0 + 1 + 1 ..`, with so many operators.
+pub(crate) fn long_sum(alloc: Global, operators: u32) -> Made {
+    let first = boxed(alloc, number(0))?;
+    let mut links = Items::new(alloc);
+    for _ in 0..operators {
+        links.push((
+            1,
+            Operator::Calculate(Arithmetic::Add),
+            Expr::Literal(1, Value::Int(1)),
+        ))?;
+    }
+    Ok(Expr::Chain(first, links))
+}
+
+pub(crate) fn copy(alloc: Global, made: Made) -> Made {
+    made?.copied(alloc)
+}
+
+fn column(alloc: Global, name: &str, kind: Kind) -> Result<Column, NoMemory> {
+    Ok(Column {
+        name: Name::new(alloc, name)?,
+        kind,
+    })
+}
+
+/// The columns `a` and `b` of these kinds.
+fn pair(alloc: Global, a: Kind, b: Kind) -> Result<ColumnList, NoMemory> {
+    let mut columns = ColumnList::new(alloc);
+    columns.push(column(alloc, "a", a)?)?;
+    columns.push(column(alloc, "b", b)?)?;
+    Ok(columns)
+}
+
+fn row(alloc: Global, a: Value, b: Value) -> Result<Row, NoMemory> {
+    let mut row = Row::new(alloc);
+    row.push(a)?;
+    row.push(b)?;
+    Ok(row)
+}
+
+/// What evaluation gives, as a text: a value as it is printed, `null`, or the fault.
+fn told(alloc: Global, expr: &Expr, columns: &ColumnList, row: &Row) -> Result<Txt, NoMemory> {
+    match eval(alloc, expr, columns, row) {
+        Ok(Value::Null) => Txt::new(alloc, "null"),
+        Ok(value) => print(alloc, &value),
+        Err(Cant::Why(fault)) => Ok(Txt::from_string(format!(in alloc; "{fault:?}")?)),
+        Err(Cant::NoMemory) => Err(NoMemory),
+    }
+}
+
+fn told_alone(alloc: Global, made: Made) -> Result<Txt, NoMemory> {
+    let expr = made?;
+    told(alloc, &expr, &ColumnList::new(alloc), &Row::new(alloc))
+}
+
+/// Whether an expression without columns gives this.
+pub(crate) fn gives(alloc: Global, made: Made, wanted: &str) -> bool {
+    match told_alone(alloc, made) {
+        Ok(text) => text.as_str() == wanted,
+        Err(_) => false,
+    }
+}
+
+fn told_numbers(
+    alloc: Global,
+    made: Made,
+    kinds: (Kind, Kind),
+    values: (i64, i64),
+) -> Result<Txt, NoMemory> {
+    let expr = made?;
+    let columns = pair(alloc, kinds.0, kinds.1)?;
+    let row = row(alloc, Value::Int(values.0), Value::Int(values.1))?;
+    told(alloc, &expr, &columns, &row)
+}
+
+/// Whether an expression gives this where the columns `a` and `b` have these kinds and numbers.
+pub(crate) fn gives_on(
+    alloc: Global,
+    made: Made,
+    kinds: (Kind, Kind),
+    values: (i64, i64),
+    wanted: &str,
+) -> bool {
+    match told_numbers(alloc, made, kinds, values) {
+        Ok(text) => text.as_str() == wanted,
+        Err(_) => false,
+    }
+}
+
+fn told_texts(alloc: Global, made: Made, a: &str, b: &str) -> Result<Txt, NoMemory> {
+    let expr = made?;
+    let columns = pair(alloc, Kind::Varchar(5), Kind::Text)?;
+    let a = Txt::new(alloc, a)?;
+    let b = Txt::new(alloc, b)?;
+    let row = row(alloc, Value::Text(a), Value::Text(b))?;
+    told(alloc, &expr, &columns, &row)
+}
+
+/// Whether an expression gives this where the column `a` is varchar(5), `b` is text, and they have these values.
+pub(crate) fn gives_on_texts(alloc: Global, made: Made, a: &str, b: &str, wanted: &str) -> bool {
+    match told_texts(alloc, made, a, b) {
+        Ok(text) => text.as_str() == wanted,
+        Err(_) => false,
+    }
+}
+
+fn typed(
+    alloc: Global,
+    made: Made,
+    a: Kind,
+    b: Kind,
+) -> Result<Result<Typed, TypeFault>, NoMemory> {
+    let expr = made?;
+    let columns = pair(alloc, a, b)?;
+    Ok(kind_of(&expr, &columns))
+}
+
+/// Whether an expression has this kind where the columns `a` and `b` have these.
+pub(crate) fn has_kind_on(
+    alloc: Global,
+    made: Made,
+    a: Kind,
+    b: Kind,
+    wanted: Result<Typed, TypeFault>,
+) -> bool {
+    match typed(alloc, made, a, b) {
+        Ok(found) => found == wanted,
+        Err(_) => false,
+    }
+}
+
+/// Whether an expression that names neither `a` nor `b` has this kind.
+pub(crate) fn has_kind(alloc: Global, made: Made, wanted: Result<Typed, TypeFault>) -> bool {
+    has_kind_on(alloc, made, Kind::Integer, Kind::Integer, wanted)
+}
+
+/// Whether it is at fault at this place, for its kinds.
+pub(crate) fn is_wrong_at(alloc: Global, made: Made, place: u32) -> bool {
+    has_kind(alloc, made, Err(TypeFault::WrongKind { place }))
+}
