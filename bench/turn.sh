@@ -2,16 +2,17 @@
 # Times a `give` and the `turn` that runs its statement, by the entries of the journal: INSERT of one row, SELECT of an empty
 # table, and ALTER TABLE that is refused, none of which has more to do in a longer history. Prints nanoseconds for each
 # turn of the second half of a journal, as the difference of runs with whole and with half journals, and how many times
-# as much it is as in a journal of a tenth of the entries. A turn that walked the journal would take 10 times as long; what
-# growth there is comes with memory that is new to the process and its caches.
+# as much it is as in a journal of a tenth of the entries: a turn that walked the journal would take 10 times as long. glibc
+# is told to keep the memory of one journal for the next, since pages that are new to a process take longer than a turn.
 # Usage: bench/turn.sh [RUNS]   (how often each is timed; 7 where not given)
 set -eu
 cd "$(dirname "$0")/.."
 runs=${1:-7}
 . bench/timing.sh
+export MALLOC_MMAP_THRESHOLD_=1073741824 MALLOC_TRIM_THRESHOLD_=4294967296
 
 # The entries of a run, all journals together.
-entries=8000000
+entries=16000000
 
 printf '%10s %10s %10s %10s %8s\n' statement entries turns 'ns a turn' growth
 # A turn of INSERT or SELECT makes seven entries with its Give, a refused one six.
