@@ -59,7 +59,7 @@ place_is y m d from real =
     let same = days_from_civil-day (pos y) m d 1 real.2.0 (omega arith) in
     rw (← year_is y m d from real, ← month_is y m d from real) (grind (arith, ints))
 
-first_count : day_count (pos 1) 1 1 ≡ 3_652_791
+pub first_count : day_count (pos 1) 1 1 ≡ 3_652_791
 unfolding day_count days_of_years days_of_months
 first_count = refl
 

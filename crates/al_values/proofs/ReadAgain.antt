@@ -1,15 +1,20 @@
 -- What is printed is read again: each integer, and each day of the years 1 to 9999.
-use Rattle.std.proofs.Common.{◌≡◌, ℕ, zero, suc, ◌+◌, ◌-◌, ◌*◌, ◌^◌, ◌<◌, ◌≤◌, ℤ, pos, negsuc, true, false, List, [], ◌∷◌, ◌++◌, length, get_or, replicate, decimal, codes, refl, sym, ap, ◌∙◌, arith, rules}
+use Rattle.std.proofs.Common.{Bool, ◌≡◌, ℕ, zero, suc, ◌+◌, ◌-◌, ◌*◌, ◌^◌, ◌<◌, ◌≤◌, ℤ, pos, negsuc, true, false, List, [], ◌∷◌, ◌++◌, length, get_or, replicate, decimal, codes, refl, sym, ap, ◌∙◌, arith, rules}
 use Rattle.std.specs.Prelude.{Some, Ok, fold}
 use Rattle.std.specs.Fmt.{signed_decimal}
 use Rattle.std.specs.List.{list_all}
 use Rattle.std.proofs.lemmas.Str.Parse.{IsNumeralModel, numerals_by_fold}
 use Rattle.std.proofs.lemmas.Fmt.{digits_decimal, digits_value-decimal, length-decimal-le, decimal_nonempty}
 use Rattle.std.proofs.lemmas.List.{length-append, length-replicate}
+use Rattle.al_values.specs.declared.scalar.Value.{Value}
 use Rattle.al_values.specs.declared.scalar.Value.TheVariants as values
+use Rattle.al_values.specs.declared.kinds.Kind.{Kind}
+use Rattle.al_values.specs.Kinds.{fits}
+use Rattle.std.proofs.lemmas.Int.{ints}
+use Rattle.al_values.proofs.DayLaws.{date_of_day, printed_day}
 use Rattle.al_values.specs.declared.kinds.Kind.TheVariants as kinds
-use Rattle.al_values.specs.Days.{is_date, day_number, date_text, padded_to}
-use Rattle.al_values.specs.Reading.{digits_value, unsigned_of, is_digit, is_blank, skip_blanks, trimmed, number_of, signed_of, ranged, read_as, date_read, dated}
+use Rattle.al_values.specs.Days.{is_day, year_of, month_of, place_of, is_date, day_number, date_text, padded_to}
+use Rattle.al_values.specs.Reading.{IsReadAgain, boolean_read, digits_value, unsigned_of, is_digit, is_blank, skip_blanks, trimmed, number_of, signed_of, ranged, read_as, date_read, dated}
 use Rattle.al_values.specs.Printed.{printed}
 use Rattle.al_values.proofs.Dates.{is_date_small}
 use Rattle.al_values.proofs.Blanks.{back_stop}
@@ -142,3 +147,35 @@ pub integer_read_again : (number : ℤ) → mag number + 1 < 2 ^ 64
 integer_read_again number small =
     let again = number_again number small in
     (rw again refl, rw again refl, rw again refl)
+
+-- ---- values
+
+small_from_fits : (to : Kind) (number : ℤ) → fits to number ≡ true → mag number + 1 < 2 ^ 64
+small_from_fits kinds.Smallint number has = grind (arith, ints)
+small_from_fits kinds.Integer number has = grind (arith, ints)
+small_from_fits kinds.Bigint number has = grind (arith, ints)
+small_from_fits _ number has = absurd cc
+
+fitting_again : (to : Kind) (number : ℤ) → fits to number ≡ true → read_as (printed (values.Int number)) to ≡ Ok (values.Int number)
+fitting_again kinds.Smallint number has = (integer_read_again number (small_from_fits kinds.Smallint number has)).0 ∙ rw has refl
+fitting_again kinds.Integer number has = (integer_read_again number (small_from_fits kinds.Integer number has)).1 ∙ rw has refl
+fitting_again kinds.Bigint number has = (integer_read_again number (small_from_fits kinds.Bigint number has)).2 ∙ rw has refl
+fitting_again _ number has = absurd cc
+
+day_again : (number : ℤ) → is_day number ≡ true → read_as (printed (values.Day number)) kinds.Date ≡ Ok (values.Day number)
+day_again number inside =
+    let date = date_of_day number inside in
+    rw (printed_day number inside)
+    (date_read_again (year_of number) (month_of number) (place_of number) date.0 ∙ rw date.1 refl)
+
+truth_again : (truth : Bool) → read_as (printed (values.Bool truth)) kinds.Boolean ≡ Ok (values.Bool truth)
+unfolding skip_blanks trimmed boolean_read
+truth_again true = refl
+truth_again false = refl
+
+pub read_again : (value : Value) (text : List ℕ) → text ≡ printed value → IsReadAgain value text
+read_again values.Null text is = tt
+read_again (values.Bool truth) text is = rw is (truth_again truth)
+read_again (values.Int number) text is = λ to has. rw is (fitting_again to number has)
+read_again (values.Text bytes) text is = rw is refl
+read_again (values.Day number) text is = λ inside. rw is (day_again number inside)

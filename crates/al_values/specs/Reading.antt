@@ -1,5 +1,5 @@
 -- What a text is read as (manual, 4.1.2.7, Constants of Other Types; 8.1, 8.5 and 8.6 for what each kind takes).
-use Rattle.std.specs.Prelude.{ℕ, ◌+◌, ◌-◌, ◌*◌, ℤ, pos, neg_ℤ, Bool, true, false, ◌&&◌, ◌||◌, ◌==◌, nat_le, if◌then◌else◌, List, [], ◌∷◌, map, reverse, length, take, drop, fold, slice_index, bytes_eq, Option, Some, None, option_map, Result, Ok, Err, codes}
+use Rattle.std.specs.Prelude.{◌≡◌, ℕ, ◌+◌, ◌-◌, ◌*◌, ℤ, pos, neg_ℤ, Bool, true, false, ◌&&◌, ◌||◌, ◌==◌, nat_le, if◌then◌else◌, List, [], ◌∷◌, map, reverse, length, take, drop, fold, slice_index, bytes_eq, Option, Some, None, option_map, Result, Ok, Err, codes}
 use Rattle.std.specs.List.{list_all, list_any}
 use Rattle.std.specs.Char.{to_ascii_lowercase}
 use Rattle.al_values.specs.declared.scalar.Value.{Value}
@@ -10,7 +10,7 @@ use Rattle.al_values.specs.declared.kinds.CastFault.{CastFault}
 use Rattle.al_values.specs.declared.kinds.CastFault.TheVariants as faults
 use Rattle.al_values.specs.Kinds.{fits}
 use Rattle.al_values.specs.Characters.{first_characters, only_spaces_after}
-use Rattle.al_values.specs.Days.{is_date, day_number}
+use Rattle.al_values.specs.Days.{is_day, is_date, day_number}
 
 -- space, tab, line feed, vertical tab, form feed, carriage return
 abbrev pub is_blank : ℕ → Bool
@@ -100,3 +100,11 @@ read_as text kinds.Boolean = boolean_read (trimmed text)
 read_as text kinds.Text = Ok (values.Text text)
 read_as text (kinds.Varchar most) = stored_text most text
 read_as text kinds.Date = date_read text
+
+-- the text is read as the value again, by each kind that has it
+abbrev pub IsReadAgain : Value → List ℕ → Type 0
+IsReadAgain values.Null text = Unit {0}
+IsReadAgain (values.Bool truth) text = read_as text kinds.Boolean ≡ Ok (values.Bool truth)
+IsReadAgain (values.Int number) text = (to : Kind) → fits to number ≡ true → read_as text to ≡ Ok (values.Int number)
+IsReadAgain (values.Text bytes) text = read_as text kinds.Text ≡ Ok (values.Text bytes)
+IsReadAgain (values.Day day) text = is_day day ≡ true → read_as text kinds.Date ≡ Ok (values.Day day)

@@ -1,5 +1,6 @@
 ghost use Rattle.std.specs.Prelude.{◌≡◌, Some, IfOk};
 ghost use Rattle.al_values.specs.Printed.{printed};
+ghost use Rattle.al_values.specs.Reading.{IsReadAgain};
 
 use crate::{Copied, NoMemory, Txt, days};
 use std::alloc::Global;
@@ -52,9 +53,11 @@ impl fmt::Display for Value {
     }
 }
 
-/// A value as a report prints it.
+/// A value as a report prints it. A kind that has the value reads it again from the text, but for Null.
+#[tactic(auto, using(crate::proofs::ReadAgain::read_again))]
 pub fn print(alloc: Global, v: &Value) -> Result<Txt, NoMemory>
-    ensures { IfOk result (λ text. text ≡ printed v.now) }
+    ensures value { IfOk result (λ text. text ≡ printed v.now) }
+    ensures again { IfOk result (λ text. IsReadAgain v.now text) }
 {
     Ok(Txt::from_string(format!(in alloc; "{v}")?))
 }

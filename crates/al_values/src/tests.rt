@@ -28,14 +28,15 @@ fn value(alloc: Global, plain: &Plain) -> Result<Value, NoMemory> {
     })
 }
 
-fn is(answer: &Result<Value, Cant<CastFault>>, wanted: &Plain) -> bool {
+// Want of memory is handed on: it is neither the wanted answer nor another one.
+fn is(answer: &Result<Value, Cant<CastFault>>, wanted: &Plain) -> Result<bool, NoMemory> {
     match answer {
-        Ok(value) => is_value(value, wanted),
-        Err(Cant::Why(fault)) => match wanted {
+        Ok(value) => Ok(is_value(value, wanted)),
+        Err(Cant::Why(fault)) => Ok(match wanted {
             Plain::Fault(other) => *fault == *other,
             _ => false,
-        },
-        Err(Cant::NoMemory) => false,
+        }),
+        Err(Cant::NoMemory) => Err(NoMemory),
     }
 }
 
@@ -75,7 +76,7 @@ const NONE: Plain = Plain::Fault(CastFault::NoCast);
 fn check_read(rt: &impl Abort, alloc: Global, cases: &[(&str, Kind, Plain)]) -> Result<(), Fail> {
     for (text, kind, wanted) in cases {
         let answer = read(alloc, &Txt::new(alloc, text)?, *kind);
-        assert!(rt; is(&answer, wanted), "at '{text}'");
+        assert!(rt; is(&answer, wanted)?, "at '{text}'");
     }
     Ok(())
 }
@@ -220,11 +221,11 @@ fn check_into(
     for (place, kind) in KINDS.iter().enumerate() {
         assert!(rt; place < 7);
         assert!(rt;
-            is(&assign(alloc, &from, *kind), &assigned[place]),
+            is(&assign(alloc, &from, *kind), &assigned[place])?,
             "'{from}' assigned at {place}"
         );
         assert!(rt;
-            is(&cast(alloc, &from, *kind), &written[place]),
+            is(&cast(alloc, &from, *kind), &written[place])?,
             "'{from}' cast at {place}"
         );
     }
@@ -354,15 +355,15 @@ fn cuts_texts(rt: HostRuntime) -> Result<(), Fail> {
         let from = Value::Text(Txt::new(alloc, text)?);
         let kind = Kind::Varchar(most);
         assert!(rt;
-            is(&assign(alloc, &from, kind), &stored),
+            is(&assign(alloc, &from, kind), &stored)?,
             "'{text}' assigned"
         );
         assert!(rt;
-            is(&cast(alloc, &from, kind), &Plain::Text(cut)),
+            is(&cast(alloc, &from, kind), &Plain::Text(cut))?,
             "'{text}' cast"
         );
         assert!(rt;
-            is(&read(alloc, &Txt::new(alloc, text)?, kind), &stored),
+            is(&read(alloc, &Txt::new(alloc, text)?, kind), &stored)?,
             "'{text}' read"
         );
     }
@@ -399,7 +400,7 @@ fn prints(rt: HostRuntime) -> Result<(), Fail> {
         let text = print(alloc, &value(alloc, &plain)?)?;
         assert_eq!(rt; text.as_str(), wanted);
         if let Some(kind) = kind {
-            assert!(rt; is(&read(alloc, &text, kind), &plain), "{text} read again");
+            assert!(rt; is(&read(alloc, &text, kind), &plain)?, "{text} read again");
         }
     }
     Ok(())
