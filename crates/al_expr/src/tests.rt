@@ -190,6 +190,18 @@ fn nulls_in_arithmetic_and_texts(rt: HostRuntime) {
         )
     );
     assert!(rt; gives(alloc, length(alloc, null()), "null"));
+    let sum = calculated(alloc, number(1), Arithmetic::Add, null());
+    assert!(rt; gives(alloc, prefixed(alloc, 0, Prefix::Minus, sum), "null"));
+    let sum = calculated(alloc, number(1), Arithmetic::Add, null());
+    assert!(rt; gives(alloc, abs(alloc, sum), "null"));
+    assert!(rt;
+        gives(
+            alloc,
+            cast(alloc, null(), &[Kind::Integer, Kind::Boolean]),
+            "null"
+        )
+    );
+    assert!(rt; gives(alloc, coalesce(alloc, null(), null()), "null"));
 }
 
 #[test]
