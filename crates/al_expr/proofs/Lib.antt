@@ -3,5 +3,6 @@ pub mod KindNodes
 pub mod NominalLemmas
 pub mod NominalNodes
 pub mod OperatorLemmas
+pub mod PlaceNodes
 pub mod ValueNodes
 mod Vectors

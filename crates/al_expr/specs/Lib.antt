@@ -6,3 +6,4 @@ pub mod Owned
 pub mod Nominal
 pub mod Values
 pub mod Evaluation
+pub mod Places

@@ -9,6 +9,7 @@ mod fault;
 mod held;
 mod kinds;
 mod nominal;
+mod place;
 mod sameness;
 #[cfg(test)]
 mod samples;
@@ -23,6 +24,7 @@ pub use column::{Column, ColumnList};
 pub use evaluation::eval;
 pub use fault::EvalFault;
 pub use kinds::{TypeFault, Typed};
+pub use place::place_of;
 pub use sameness::same;
 pub use tree::{Arithmetic, Comparison, Expr, Operator, Prefix};
 pub use typing::kind_of;

@@ -2,7 +2,7 @@
 
 use crate::{
     Arithmetic, Column, ColumnList, Comparison, Expr, Operator, Prefix, TypeFault, Typed, eval,
-    kind_of,
+    kind_of, place_of, same,
 };
 use al_values::{Cant, Copied, Kind, Name, NoMemory, Row, Txt, Value, print};
 use sqlite_items::{Boxed, Items};
@@ -172,6 +172,22 @@ pub(crate) fn long_sum(alloc: Global, operators: u32) -> Made {
 
 pub(crate) fn copy(alloc: Global, made: Made) -> Made {
     made?.copied(alloc)
+}
+
+/// Whether both were made, and are equal.
+pub(crate) fn are_same(made: Made, other: Made) -> bool {
+    match (made, other) {
+        (Ok(expr), Ok(other)) => same(&expr, &other),
+        _ => false,
+    }
+}
+
+/// Whether it was made, and its root stands at this place.
+pub(crate) fn stands_at(made: Made, place: u32) -> bool {
+    match made {
+        Ok(expr) => place_of(&expr) == place,
+        Err(_) => false,
+    }
 }
 
 fn column(alloc: Global, name: &str, kind: Kind) -> Result<Column, NoMemory> {

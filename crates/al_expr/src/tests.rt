@@ -1,7 +1,8 @@
 use crate::samples::{
-    abs, between, binary, calculated, cast, coalesce, compared, copy, date, faulty, faulty_truth,
-    gives, gives_on, gives_on_texts, has_kind, has_kind_on, integer, is_wrong_at, length, long_sum,
-    name, nested, null, number, prefixed, string, tested, truth, within,
+    abs, are_same, between, binary, calculated, cast, coalesce, compared, copy, date, faulty,
+    faulty_truth, gives, gives_on, gives_on_texts, has_kind, has_kind_on, integer, is_wrong_at,
+    length, long_sum, name, nested, null, number, prefixed, stands_at, string, tested, truth,
+    within,
 };
 use crate::{Arithmetic, Comparison, Operator, Prefix, TypeFault, Typed};
 use al_values::Kind;
@@ -189,6 +190,18 @@ fn nulls_in_arithmetic_and_texts(rt: HostRuntime) {
         )
     );
     assert!(rt; gives(alloc, length(alloc, null()), "null"));
+    let sum = calculated(alloc, number(1), Arithmetic::Add, null());
+    assert!(rt; gives(alloc, prefixed(alloc, 0, Prefix::Minus, sum), "null"));
+    let sum = calculated(alloc, number(1), Arithmetic::Add, null());
+    assert!(rt; gives(alloc, abs(alloc, sum), "null"));
+    assert!(rt;
+        gives(
+            alloc,
+            cast(alloc, null(), &[Kind::Integer, Kind::Boolean]),
+            "null"
+        )
+    );
+    assert!(rt; gives(alloc, coalesce(alloc, null(), null()), "null"));
 }
 
 #[test]
@@ -683,4 +696,35 @@ fn deep_and_long(rt: HostRuntime) {
     let whole = Ok(Typed::Known(Kind::Integer));
     assert!(rt; has_kind(alloc, copy(alloc, long_sum(alloc, 30_000)), whole));
     assert!(rt; gives(alloc, copy(alloc, long_sum(alloc, 30_000)), "30000"));
+}
+
+#[test]
+fn copies_and_places(rt: HostRuntime) {
+    let alloc = rt.alloc();
+    assert!(rt; are_same(copy(alloc, nested(alloc, 200)), nested(alloc, 200)));
+    assert!(rt;
+        are_same(
+            copy(alloc, long_sum(alloc, 30_000)),
+            long_sum(alloc, 30_000)
+        )
+    );
+    assert!(rt; !are_same(long_sum(alloc, 2), long_sum(alloc, 3)));
+    assert!(rt; !are_same(number(1), number(2)));
+    assert!(rt; !are_same(number(1), null()));
+    assert!(rt;
+        !are_same(
+            cast(alloc, null(), &[Kind::Text]),
+            cast(alloc, null(), &[Kind::Date])
+        )
+    );
+    let sum = binary(
+        alloc,
+        number(1),
+        5,
+        Operator::Calculate(Arithmetic::Add),
+        number(2),
+    );
+    assert!(rt; stands_at(sum, 5));
+    assert!(rt; stands_at(abs(alloc, number(1)), 15));
+    assert!(rt; stands_at(cast(alloc, number(1), &[]), 1));
 }
