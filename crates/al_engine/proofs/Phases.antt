@@ -247,7 +247,7 @@ ends scripts before past s block x statement acts reply db old between p answers
       record {
         legal = (end_comes, (commit_comes, (done_comes, p.legal)));
         xacts = λ r. xact_after r (eqb_tells s r);
-      blocks = λ r. block_done (s == r) reply (block_state past r) (p.blocks r) keeps;
+        blocks = λ r. block_done (s == r) reply (block_state past r) (p.blocks r) keeps;
         owed_is = refl;
         uncut = λ r. refl;
         committed_is = committed_by_commit scripts (Done s reply ∷ past) x ∙ p.latest_is;
@@ -288,7 +288,7 @@ refuses scripts before past s block x statement look cause db old between p firs
       record {
         legal = (end_comes, (abort_comes, (refuse_comes, p.legal)));
         xacts = λ r. xact_after r (eqb_tells s r);
-      blocks = λ r. block_refused (s == r) (length past) (block_state past r) (p.blocks r);
+        blocks = λ r. block_refused (s == r) (length past) (block_state past r) (p.blocks r);
         owed_is = refl;
         uncut = λ r. refl;
         committed_is = committed_by_abort scripts (Refuse s cause ∷ past) x p.open_fate ∙ p.committed_is;
