@@ -4,5 +4,6 @@ pub mod NominalLemmas
 pub mod NominalNodes
 pub mod OperatorLemmas
 pub mod PlaceNodes
+pub mod UnplacedNodes
 pub mod ValueNodes
 mod Vectors

@@ -7,3 +7,4 @@ pub mod Nominal
 pub mod Values
 pub mod Evaluation
 pub mod Places
+pub mod Unplaced

@@ -18,6 +18,7 @@ mod tests;
 mod texts;
 mod tree;
 mod typing;
+mod unplaced;
 mod values;
 
 pub use column::{Column, ColumnList};
@@ -28,3 +29,4 @@ pub use place::place_of;
 pub use sameness::same;
 pub use tree::{Arithmetic, Comparison, Expr, Operator, Prefix};
 pub use typing::kind_of;
+pub use unplaced::without_places;

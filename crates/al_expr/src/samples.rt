@@ -2,7 +2,7 @@
 
 use crate::{
     Arithmetic, Column, ColumnList, Comparison, Expr, Operator, Prefix, TypeFault, Typed, eval,
-    kind_of, place_of, same,
+    kind_of, place_of, same, without_places,
 };
 use al_values::{Cant, Copied, Kind, Name, NoMemory, Row, Txt, Value, print};
 use sqlite_items::{Boxed, Items};
@@ -172,6 +172,10 @@ pub(crate) fn long_sum(alloc: Global, operators: u32) -> Made {
 
 pub(crate) fn copy(alloc: Global, made: Made) -> Made {
     made?.copied(alloc)
+}
+
+pub(crate) fn unplaced(alloc: Global, made: Made) -> Made {
+    without_places(alloc, &made?)
 }
 
 /// Whether both were made, and are equal.

@@ -2,7 +2,7 @@ use crate::samples::{
     abs, are_same, between, binary, calculated, cast, coalesce, compared, copy, date, faulty,
     faulty_truth, gives, gives_on, gives_on_texts, has_kind, has_kind_on, integer, is_wrong_at,
     length, long_sum, name, nested, null, number, prefixed, stands_at, string, tested, truth,
-    within,
+    unplaced, within,
 };
 use crate::{Arithmetic, Comparison, Operator, Prefix, TypeFault, Typed};
 use al_values::Kind;
@@ -727,4 +727,10 @@ fn copies_and_places(rt: HostRuntime) {
     assert!(rt; stands_at(sum, 5));
     assert!(rt; stands_at(abs(alloc, number(1)), 15));
     assert!(rt; stands_at(cast(alloc, number(1), &[]), 1));
+    let one = binary(alloc, number(1), 5, Operator::Concat, number(2));
+    let other = binary(alloc, number(1), 6, Operator::Concat, number(2));
+    assert!(rt; !are_same(one, other));
+    let one = binary(alloc, number(1), 5, Operator::Concat, number(2));
+    let other = binary(alloc, number(1), 6, Operator::Concat, number(2));
+    assert!(rt; are_same(unplaced(alloc, one), unplaced(alloc, other)));
 }
