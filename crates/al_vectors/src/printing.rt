@@ -198,6 +198,11 @@ fn prints_a_failed_setup(rt: HostRuntime) -> Result<(), Fail> {
             Cause::Count { want: 2, got: 3 },
             "42601: INSERT has 3 values for 2 columns",
         ),
+        (
+            Cause::BlockFailed { refuse: 3 },
+            "25P02: transaction block has failed",
+        ),
+        (Cause::Cancelled { entry: 3 }, "57014: cancelled"),
     ] {
         let text = print_refused(alloc, cause)?;
         let wanted = format!(in alloc;
@@ -209,6 +214,44 @@ fn prints_a_failed_setup(rt: HostRuntime) -> Result<(), Fail> {
             setup 2\n\
             ERROR: {line}\n\
             setup failed\n"
+        )?;
+        assert_eq!(rt; text.as_str(), wanted.as_str());
+    }
+    Ok(())
+}
+
+// The report of a step that is answered by a tag.
+fn print_tag(alloc: Global, tag: Tag) -> Result<Txt, NoMemory> {
+    let spec = make_spec(alloc, "INSERT INTO t VALUES (1)")?;
+    let mut history = History::new(alloc);
+    put(
+        &mut history,
+        Entry::Give {
+            session: 1,
+            block: 2,
+        },
+    )?;
+    let reply = Reply::Tag { tag, count: 0 };
+    put(&mut history, Entry::Done { session: 1, reply })?;
+    put(&mut history, Entry::End { session: 1 })?;
+    print_run(alloc, &spec, Setup::Done, history)
+}
+
+#[test]
+fn prints_tags(rt: HostRuntime) -> Result<(), Fail> {
+    let alloc = rt.alloc();
+    for (tag, line) in [
+        (Tag::Begin, "BEGIN"),
+        (Tag::Commit, "COMMIT"),
+        (Tag::Rollback, "ROLLBACK"),
+    ] {
+        let text = print_tag(alloc, tag)?;
+        let wanted = format!(in alloc;
+            "Parsed test spec with 1 sessions\n\
+            \n\
+            starting permutation: add sel\n\
+            step add: ALTER TABLE t ADD COLUMN b integer DEFAULT 5;\n\
+            {line}\n"
         )?;
         assert_eq!(rt; text.as_str(), wanted.as_str());
     }

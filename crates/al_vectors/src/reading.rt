@@ -181,6 +181,9 @@ fn many_steps(rt: HostRuntime) -> Result<(), Fail> {
 
 fn printed(alloc: Global, statement: &Statement) -> Result<String, AllocError> {
     match statement {
+        Statement::Begin | Statement::Commit | Statement::Rollback => {
+            format!(in alloc; "{statement:?}")
+        }
         Statement::CreateTable { table, columns } => {
             let mut text = format!(in alloc; "create {table}")?;
             for name in columns.as_slice() {
