@@ -120,7 +120,7 @@ module _ (scripts : Scripts) (old new : Kept) (sessions : List Session) (tables 
   pub turn_keeps : old.room ≤ new.room + 4 → IsKept scripts new (slice_set sessions s (record { hand = None; closed = t.closed })) after
   turn_keeps room =
       let leads = turn_leads scripts (past_of old) s block (tables_of tables) kept.between statement in_hand_then is plain in
-      let done_so = did (past_of old) s statement (tables_of tables) in
+      let done_so = did (past_of old) s statement (tables_of tables) (kept.between.fresh s block in_hand_then).none_refused in
       let of_old : light_of t ≡ light_of (record { hand = None; closed = t.closed }) + 4 = rw busy (omega arith) in
       record {
         between = rw (step.journal, step.tables) leads.0;
@@ -134,7 +134,7 @@ module _ (scripts : Scripts) (old new : Kept) (sessions : List Session) (tables 
   pub turn_went : WentOn (record { scripts = scripts; past = past_of old }) (record { scripts = scripts; past = past_of new }) s (length (past_of old)) (length (past_of new)) (is_refused ended)
   turn_went =
       let leads = turn_leads scripts (past_of old) s block (tables_of tables) kept.between statement in_hand_then is plain in
-      let done_so = did (past_of old) s statement (tables_of tables) in
+      let done_so = did (past_of old) s statement (tables_of tables) (kept.between.fresh s block in_hand_then).none_refused in
       rw (step.journal, step.ended_so) (record {
         scripts = refl;
         in_step = rw in_hand_then refl;
@@ -143,6 +143,7 @@ module _ (scripts : Scripts) (old new : Kept) (sessions : List Session) (tables 
         some = done_so.more;
         extends = done_so.extends;
         ended = done_so.ended;
+        told = done_so.told;
         others = done_so.others;
         driven = done_so.driven;
         closed_same = done_so.closed_same;

@@ -10,7 +10,7 @@ use Rattle.al_history.specs.declared.statement.Statement.{Statement}
 use Rattle.al_history.specs.declared.statement.Statement.TheVariants as statements
 use Rattle.al_history.specs.Past.{Past}
 use Rattle.al_history.specs.Database.{Table, Database, named}
-use Rattle.al_history.specs.Hand.{hand, closed, session_of}
+use Rattle.al_history.specs.Hand.{hand, closed, session_of, refused as has_refused}
 use Rattle.al_history.specs.Cause.{name_cause, look_cause}
 use Rattle.al_history.specs.Made.{made_by, Extends}
 use Rattle.al_history.specs.Whole.{driver, failed_setup}
@@ -26,11 +26,12 @@ record IsQuiet (x : ℕ) (e : Entry) : Type 0 where
   fails_not : (spec : Spec) (past : Past) → failed_setup spec (e ∷ past) ≡ failed_setup spec past
   closes_not : (past : Past) (s : ℕ) → closed (e ∷ past) s ≡ closed past s
   hands_not : (past : Past) (s : ℕ) → hand (e ∷ past) s ≡ hand past s
+  refuses_not : (past : Past) (s : ℕ) → has_refused (e ∷ past) s ≡ has_refused past s
   starts_not : (past : Past) (y : ℕ) → session_of (e ∷ past) y ≡ session_of past y
   made_so : (past : Past) → made_by past e ≡ session_of past x
 
 quiet_look : (x : ℕ) → IsQuiet x (Look x)
-quiet_look x = record { drives_not = λ past. refl; fails_not = λ spec past. refl; closes_not = λ past s. refl; hands_not = λ past s. refl; starts_not = λ past y. refl; made_so = λ past. refl }
+quiet_look x = record { drives_not = λ past. refl; fails_not = λ spec past. refl; closes_not = λ past s. refl; hands_not = λ past s. refl; refuses_not = λ past s. refl; starts_not = λ past y. refl; made_so = λ past. refl }
 
 quiet_by : (o : Option Table) (act : Table → Entry) (x : ℕ) → ((t : Table) → IsQuiet x (act t)) → IsQuiet x (if_table o act (Look x))
 quiet_by None act x f = quiet_look x
@@ -40,22 +41,23 @@ quiet_act : (statement : Statement) (past : Past) (db : Database) → IsQuiet (x
 quiet_act statements.Begin past db = quiet_look _
 quiet_act statements.Commit past db = quiet_look _
 quiet_act statements.Rollback past db = quiet_look _
-quiet_act (statements.CreateTable name columns) past db = record { drives_not = λ past. refl; fails_not = λ spec past. refl; closes_not = λ past s. refl; hands_not = λ past s. refl; starts_not = λ past y. refl; made_so = λ past. refl }
-quiet_act (statements.Insert name written) past db = quiet_by (named db name) _ _ (λ t. record { drives_not = λ past. refl; fails_not = λ spec past. refl; closes_not = λ past s. refl; hands_not = λ past s. refl; starts_not = λ past y. refl; made_so = λ past. refl })
-quiet_act (statements.Select name) past db = quiet_by (named db name) _ _ (λ t. record { drives_not = λ past. refl; fails_not = λ spec past. refl; closes_not = λ past s. refl; hands_not = λ past s. refl; starts_not = λ past y. refl; made_so = λ past. refl })
-quiet_act (statements.AddColumn name column) past db = quiet_by (named db name) _ _ (λ t. record { drives_not = λ past. refl; fails_not = λ spec past. refl; closes_not = λ past s. refl; hands_not = λ past s. refl; starts_not = λ past y. refl; made_so = λ past. refl })
+quiet_act (statements.CreateTable name columns) past db = record { drives_not = λ past. refl; fails_not = λ spec past. refl; closes_not = λ past s. refl; hands_not = λ past s. refl; refuses_not = λ past s. refl; starts_not = λ past y. refl; made_so = λ past. refl }
+quiet_act (statements.Insert name written) past db = quiet_by (named db name) _ _ (λ t. record { drives_not = λ past. refl; fails_not = λ spec past. refl; closes_not = λ past s. refl; hands_not = λ past s. refl; refuses_not = λ past s. refl; starts_not = λ past y. refl; made_so = λ past. refl })
+quiet_act (statements.Select name) past db = quiet_by (named db name) _ _ (λ t. record { drives_not = λ past. refl; fails_not = λ spec past. refl; closes_not = λ past s. refl; hands_not = λ past s. refl; refuses_not = λ past s. refl; starts_not = λ past y. refl; made_so = λ past. refl })
+quiet_act (statements.AddColumn name column) past db = quiet_by (named db name) _ _ (λ t. record { drives_not = λ past. refl; fails_not = λ spec past. refl; closes_not = λ past s. refl; hands_not = λ past s. refl; refuses_not = λ past s. refl; starts_not = λ past y. refl; made_so = λ past. refl })
 
 -- what a turn did, but for the rules
 pub record Did (past after : Past) (s : ℕ) (refused : Bool) : Type 0 where
   pub extends : Extends s past after
   pub more : length past < length after
   pub ended : hand after s ≡ None
+  pub told : has_refused after s ≡ refused
   pub others : (r : ℕ) → (s == r) ≡ false → hand after r ≡ hand past r
   pub driven : driver after ≡ driver past
   pub closed_same : (r : ℕ) → closed after r ≡ closed past r
   pub failed : (spec : Spec) → failed_setup spec after ≡ failed_after spec (failed_setup spec past) (hand past s) refused
 
-module _ (past : Past) (s : ℕ) (statement : Statement) (db : Database) where
+module _ (past : Past) (s : ℕ) (statement : Statement) (db : Database) (none_refused : has_refused past s ≡ false) where
   -- the transaction that begins is the session's
   own_xact : session_of (Start s levels.ReadCommitted ∷ past) (length past) ≡ s
   own_xact = let place : (length past == length past) ≡ true = if_same (length past) in rw place refl
@@ -74,6 +76,7 @@ module _ (past : Past) (s : ℕ) (statement : Statement) (db : Database) where
         };
         more = omega arith;
         ended = rw same refl;
+        told = quiet.refuses_not looked s ∙ none_refused;
         others = λ r other. rw other (quiet.hands_not looked r);
         driven = quiet.drives_not looked;
         closed_same = λ r. quiet.closes_not looked r;
@@ -89,6 +92,7 @@ module _ (past : Past) (s : ℕ) (statement : Statement) (db : Database) where
         };
         more = omega arith;
         ended = rw same refl;
+        told = rw same refl;
         others = λ r other. rw other refl;
         driven = refl;
         closed_same = λ r. refl;
@@ -107,6 +111,7 @@ module _ (past : Past) (s : ℕ) (statement : Statement) (db : Database) where
         };
         more = omega arith;
         ended = rw same refl;
+        told = rw same refl;
         others = λ r other. rw other refl;
         driven = refl;
         closed_same = λ r. refl;

@@ -9,7 +9,7 @@ use Rattle.al_history.specs.declared.spec.Spec.{Spec}
 use Rattle.al_history.specs.declared.statement.ScriptBlock.{ScriptBlock}
 use Rattle.al_history.specs.declared.statement.Scripts.{Scripts}
 use Rattle.al_history.specs.Past.{Past}
-use Rattle.al_history.specs.Hand.{hand, closed}
+use Rattle.al_history.specs.Hand.{hand, closed, refused as has_refused}
 use Rattle.al_history.specs.Made.{Extends}
 use Rattle.al_history.specs.Rules.{has_place}
 use Rattle.al_history.specs.Legal.{Legal}
@@ -35,17 +35,17 @@ pub record IsSingle (sessions : ℕ) (block : ScriptBlock) : Type 0 where
 abbrev pub AreSingle : Scripts → Type 0
 AreSingle scripts = AllByRecursion (IsSingle scripts.sessions) scripts.blocks
 
--- a step isn't given exactly where the session has one in hand; want of memory has no cause
+-- a step isn't given exactly where the session has one in hand; memory is wanting only where it has none
 abbrev pub IsBusyFor : Ran → ℕ → Cant Busy → Type 0
 IsBusyFor ran session (cants.Why busy) = IsSome (hand ran.past session)
-IsBusyFor ran session cants.NoMemory = Unit {0}
+IsBusyFor ran session cants.NoMemory = hand ran.past session ≡ None
 
 -- the setup block that has failed, after the step in hand was or wasn't refused
 abbrev pub failed_after : Spec → Option ℕ → Option ℕ → Bool → Option ℕ
 failed_after spec failed block refused = cond refused (or_else failed (of_setup spec block)) failed
 
--- A turn made these entries, all of them the session's, and its step has come to its end. What the driver did is as it was;
--- where the session is the least that can go on, each entry came in its turn.
+-- A turn made these entries, all of them the session's, its step has come to its end, and it tells whether a statement of
+-- the step was refused. What the driver did is as it was; where the session is the least that can go on, each entry came in its turn.
 pub record WentOn (old new : Ran) (session from to : ℕ) (refused : Bool) : Type 0 where
   pub scripts : new.scripts ≡ old.scripts
   pub in_step : IsSome (hand old.past session)
@@ -54,6 +54,7 @@ pub record WentOn (old new : Ran) (session from to : ℕ) (refused : Bool) : Typ
   pub some : from < to
   pub extends : Extends session old.past new.past
   pub ended : hand new.past session ≡ None
+  pub told : has_refused new.past session ≡ refused
   pub others : (s : ℕ) → (session == s) ≡ false → hand new.past s ≡ hand old.past s
   pub driven : driver new.past ≡ driver old.past
   pub closed_same : (s : ℕ) → closed new.past s ≡ closed old.past s

@@ -1,3 +1,4 @@
+use Rattle.std.proofs.lemmas.Result.{err_from_is_err_and}
 use Rattle.std.proofs.Common.{rules, sym, refl}
 use Rattle.al_engine.proofs.EngineLemmas.{got, is_busy, is_idle, none_of, give_keeps}
 use Rattle.al_engine.proofs.engine.Engine.give.Goals as goal
@@ -20,3 +21,9 @@ returns-clause-idle c =
 
 pub returns-clause-legal : goal.returns-clause-legal
 returns-clause-legal c = (invariant_of-self-2 c).between.legal
+
+pub returns-in_err-reserve-clause-busy : goal.returns-in_err-reserve-clause-busy
+returns-in_err-reserve-clause-busy c =
+    let there = got _ _ _ _ _ c.index.result.now c.self.invariant (rw (← c.self.view_is) at c.requires.known) c.index.ensures in
+    let lack = err_from_is_err_and c.from_residual.result c.from_residual.ensures.1 in
+    rw (lack.1, lack.2, ← c.self.view_is) (is_idle _ _ _ _ _ _ c.self.invariant there (search rules))
