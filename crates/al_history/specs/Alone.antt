@@ -1,17 +1,25 @@
 -- When a table is used by one transaction alone (13.3.1).
-use Rattle.std.specs.Prelude.{◌≡◌, ℕ, Option, Some, None, option_and_then}
+use Rattle.std.specs.Prelude.{◌≡◌, ℕ, List, [], ◌∷◌, cond, ◌==◌, ◌&&◌, Option, Some, None, option_and_then}
+use Rattle.al_modes.specs.declared.mode.Mode.TheVariants.{AccessExclusive}
+use Rattle.al_modes.specs.Conflicts.{strictness}
 use Rattle.al_history.specs.declared.entry.Entry.{Entry}
-use Rattle.al_history.specs.declared.entry.Entry.TheVariants.{Look, Add, Read, Alter}
+use Rattle.al_history.specs.declared.entry.Entry.TheVariants.{Lock, Look, Add, Read, Alter}
 use Rattle.al_history.specs.declared.statement.Scripts.{Scripts}
 use Rattle.al_history.specs.Past.{Past}
 use Rattle.al_history.specs.Database.{Table, named}
 use Rattle.al_history.specs.Hand.{in_hand, session_of, look_of}
 use Rattle.al_history.specs.Cause.{used_name}
+use Rattle.al_history.specs.Locks.{Claim, held}
 use Rattle.al_history.specs.View.{latest}
 
--- the transaction that has a table locked in ACCESS EXCLUSIVE mode: none, since no entry so far is a lock
+-- the session of the first of these locks that is of the table, in ACCESS EXCLUSIVE mode
+abbrev pub sole_among : List Claim → ℕ → Option ℕ
+sole_among [] table = None
+sole_among (c ∷ claims) table = cond ((c.table == table) && (strictness c.mode == strictness AccessExclusive)) (Some c.session) (sole_among claims table)
+
+-- the session that has a table locked in ACCESS EXCLUSIVE mode
 abbrev pub sole_user : Past → ℕ → Option ℕ
-sole_user past table = None
+sole_user past table = sole_among (held past) table
 
 -- the table that the transaction's statement in hand uses, in the database as its Look found it
 abbrev pub used_table : Scripts → Past → ℕ → Past → Option Table
@@ -21,20 +29,21 @@ abbrev pub IsNumbered : Option Table → ℕ → Type 0
 IsNumbered None number = ⊥
 IsNumbered (Some t) number = t.number ≡ number
 
--- where someone has the table alone, it is that transaction
+-- where someone has the table alone, it is that session
 abbrev pub IsUser : Option ℕ → ℕ → Type 0
-IsUser None x = Unit {0}
-IsUser (Some y) x = x ≡ y
+IsUser None s = Unit {0}
+IsUser (Some r) s = s ≡ r
 
 -- a statement with this Look uses no table that another has alone
 abbrev pub UsesOwn : Scripts → Past → ℕ → Option Past → Type 0
 UsesOwn scripts past x None = Unit {0}
-UsesOwn scripts past x (Some look) = (table : ℕ) → IsNumbered (used_table scripts past x look) table → IsUser (sole_user past table) x
+UsesOwn scripts past x (Some look) = (table : ℕ) → IsNumbered (used_table scripts past x look) table → IsUser (sole_user past table) (session_of past x)
 
--- no Look, Read, row entry or ALTER TABLE uses a table that another has alone
+-- no Lock, Look, Read, row entry or ALTER TABLE uses a table that another has alone
 abbrev pub Alone : Scripts → Past → Entry → Type 0
+Alone scripts past (Lock x table mode) = IsUser (sole_user past table) (session_of past x)
 Alone scripts past (Look x) = UsesOwn scripts past x (Some past)
-Alone scripts past (Add x table row) = IsUser (sole_user past table) x
+Alone scripts past (Add x table row) = IsUser (sole_user past table) (session_of past x)
 Alone scripts past (Read x names rows) = UsesOwn scripts past x (look_of past (session_of past x))
 Alone scripts past (Alter x table statement rewritten) = UsesOwn scripts past x (look_of past (session_of past x))
 Alone scripts past e = Unit {0}

@@ -13,6 +13,7 @@ use Rattle.al_history.specs.Database.{Table, Database, same_name, named}
 use Rattle.al_history.specs.Hand.{in_hand, xact_of, look_of, acts_of, BlockState, FailedBlock, block_state}
 use Rattle.al_history.specs.Change.{Alteration, alteration}
 use Rattle.al_history.specs.View.{latest}
+use Rattle.al_history.specs.Need.{name_taker}
 
 -- the table that the statement uses, where it uses one that has to be there
 abbrev pub used_name : Statement → Option (List ℕ)
@@ -41,9 +42,11 @@ abbrev pub twice_column : List (List ℕ) → List (List ℕ) → Option Cause
 twice_column before [] = None
 twice_column before (name ∷ names) = cond (is_among before name) (Some (causes.TwiceColumn name)) (twice_column (before ++ name ∷ []) names)
 
--- the new table's name is there already, which comes first, or a column's name stands twice
-abbrev pub create_cause : List ℕ → List (List ℕ) → Database → Option Cause
-create_cause name columns db = cond (is_some (named db name)) (Some (causes.TwiceTable name)) (twice_column [] columns)
+-- the new table's name is there already, which comes first, or a column's name stands twice. Where an open transaction of
+-- another is in the way of the name, it isn't known yet whether the name is there.
+abbrev pub create_cause : List ℕ → List (List ℕ) → Option ℕ → Database → Option Cause
+create_cause name columns None db = cond (is_some (named db name)) (Some (causes.TwiceTable name)) (twice_column [] columns)
+create_cause name columns (Some taker) db = twice_column [] columns
 
 -- an INSERT has more values than its table has columns
 abbrev pub count_cause : ℕ → Option Table → Option Cause
@@ -61,19 +64,19 @@ alter_cause column (Some t) = refusal (alteration column t)
 
 -- After its Look: a new table's name is judged on the latest database, all else on what the Look found. Once a statement
 -- of these has acted, nothing is left to refuse.
-abbrev pub look_cause : Statement → List ℕ → Database → Database → Option Cause
-look_cause statement (act ∷ acts) now looked = None
-look_cause statements.Begin [] now looked = None
-look_cause statements.Commit [] now looked = None
-look_cause statements.Rollback [] now looked = None
-look_cause (statements.CreateTable name columns) [] now looked = create_cause name columns now
-look_cause (statements.Insert name values) [] now looked = count_cause (length values) (named looked name)
-look_cause (statements.Select name) [] now looked = None
-look_cause (statements.AddColumn name column) [] now looked = alter_cause column (named looked name)
+abbrev pub look_cause : Statement → List ℕ → Option ℕ → Database → Database → Option Cause
+look_cause statement (act ∷ acts) taker now looked = None
+look_cause statements.Begin [] taker now looked = None
+look_cause statements.Commit [] taker now looked = None
+look_cause statements.Rollback [] taker now looked = None
+look_cause (statements.CreateTable name columns) [] taker now looked = create_cause name columns taker now
+look_cause (statements.Insert name values) [] taker now looked = count_cause (length values) (named looked name)
+look_cause (statements.Select name) [] taker now looked = None
+look_cause (statements.AddColumn name column) [] taker now looked = alter_cause column (named looked name)
 
 abbrev pub cause_at : Scripts → Past → ℕ → Statement → List ℕ → Option Past → Option Cause
 cause_at scripts past x statement acts None = name_cause statement (latest scripts past x)
-cause_at scripts past x statement acts (Some look) = look_cause statement acts (latest scripts past x) (latest scripts look x)
+cause_at scripts past x statement acts (Some look) = look_cause statement acts (name_taker past x statement) (latest scripts past x) (latest scripts look x)
 
 -- what is said of the statement in hand, whatever else is true, right after its step was cancelled
 abbrev pub cancel_cause : Past → ℕ → Option Cause

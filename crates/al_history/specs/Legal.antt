@@ -1,5 +1,5 @@
 -- Legal histories of a one-thread multiversion machine.
-use Rattle.std.specs.Prelude.{◌≡◌, ℕ, List, [], ◌∷◌, reverse, true, Contains, flat_map, cond, ◌==◌}
+use Rattle.std.specs.Prelude.{◌≡◌, ℕ, List, [], ◌∷◌, reverse, Bool, true, false, Contains, flat_map, cond, ◌==◌}
 use Rattle.al_history.specs.declared.entry.Entry.{Entry}
 use Rattle.al_history.specs.declared.statement.Scripts.{Scripts}
 use Rattle.al_history.specs.Past.{Past}
@@ -7,14 +7,21 @@ use Rattle.al_history.specs.Constraint.{Constraint}
 use Rattle.al_history.specs.Database.{Table, Database, Holds, breaking}
 use Rattle.al_history.specs.Tail.{owed, Follows}
 use Rattle.al_history.specs.Rules.{Rule}
+use Rattle.al_history.specs.Locks.{is_settled, is_grant}
 use Rattle.al_history.specs.Alone.{Alone}
 use Rattle.al_history.specs.View.{committed}
 
--- an entry may come: its rule is met, it is the one that is owed where one is, and no table is used that another has
--- alone
+-- a demand, unless it is waived
+abbrev pub Unless : Bool → Type 0 → Type 0
+Unless true asked = Unit {0}
+Unless false asked = asked
+
+-- An entry may come: its rule is met, and no table is used that another has alone. Each but the lock of a request that waits
+-- comes where no waiting request can be granted, and is the one that is owed where one is.
 pub record MayCome (scripts : Scripts) (past : Past) (e : Entry) : Type 0 where
   pub rule : Rule scripts past e
-  pub follows : Follows (owed scripts past) e
+  pub settled : Unless (is_grant past e) (is_settled past ≡ true)
+  pub follows : Unless (is_grant past e) (Follows (owed scripts past) e)
   pub alone : Alone scripts past e
 
 -- each entry may come after those before it

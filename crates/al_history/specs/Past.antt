@@ -1,5 +1,5 @@
 -- A journal read from its end.
-use Rattle.std.specs.Prelude.{ℕ, List, reverse}
+use Rattle.std.specs.Prelude.{List, reverse}
 use Rattle.al_history.specs.declared.entry.Entry.{Entry}
 use Rattle.al_history.specs.Kept.{Kept}
 

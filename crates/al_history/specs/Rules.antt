@@ -1,7 +1,8 @@
 -- When an entry may stand after a past. Each rule is a record of what it asks.
-use Rattle.std.specs.Prelude.{◌≡◌, ℕ, List, [], ◌∷◌, Bool, true, false, length, Option, Some, None, IsSome, slice_get, option_map, ◌⊎◌, ◌<◌}
+use Rattle.std.specs.Prelude.{◌≡◌, ℕ, List, [], ◌∷◌, Bool, true, false, length, Option, Some, None, IsSome, slice_get, option_map, option_and_then, ◌⊎◌, ◌<◌, ◌≤◌}
 use Rattle.al_values.specs.declared.scalar.Value.{Value}
 use Rattle.al_modes.specs.declared.level.Level.{Level}
+use Rattle.al_modes.specs.declared.mode.Mode.{Mode}
 use Rattle.al_modes.specs.declared.level.Level.TheVariants as levels
 use Rattle.al_history.specs.declared.entry.Tag.{Tag}
 use Rattle.al_history.specs.declared.entry.Tag.TheVariants as tags
@@ -10,7 +11,9 @@ use Rattle.al_history.specs.declared.entry.Reply.TheVariants as replies
 use Rattle.al_history.specs.declared.entry.Cause.{Cause}
 use Rattle.al_history.specs.declared.entry.Rewritten.{Rewritten}
 use Rattle.al_history.specs.declared.entry.Entry.{Entry}
-use Rattle.al_history.specs.declared.entry.Entry.TheVariants.{Give, Start, Look, Make, Add, Read, Alter, Done, Refuse, Commit, Abort, Cancel, End, Close}
+use Rattle.al_history.specs.declared.entry.Want.{Want}
+use Rattle.al_history.specs.declared.entry.Want.TheVariants as wants
+use Rattle.al_history.specs.declared.entry.Entry.TheVariants.{Give, Start, Wait, Lock, Look, Make, Add, Read, Alter, Done, Refuse, Commit, Abort, Cancel, End, Close}
 use Rattle.al_history.specs.declared.statement.Column.{Column}
 use Rattle.al_history.specs.declared.statement.ScriptBlock.{ScriptBlock}
 use Rattle.al_history.specs.declared.statement.Statement.{Statement}
@@ -22,10 +25,14 @@ use Rattle.al_history.specs.Hand.{hand, dones, refused, in_hand, xact_of, implic
 use Rattle.al_history.specs.Query.{column_names, answer}
 use Rattle.al_history.specs.Change.{shape_of, filled, alteration, altered, Passes}
 use Rattle.al_history.specs.View.{latest}
+use Rattle.al_history.specs.Locks.{Claim, claim, grantable, is_waiting}
+use Rattle.al_history.specs.Waits.{can_go_on}
+use Rattle.al_history.specs.Need.{lacking, makers, first_open, name_taker}
 use Rattle.al_history.specs.Cause.{cause_of}
 
 -- a block is given to its session, which isn't closed and has no step in hand
 pub record GiveRule (scripts : Scripts) (past : Past) (s block : ℕ) : Type 0 where
+  pub known : s < scripts.sessions
   pub of_session : option_map (λ (b : ScriptBlock). b.session) (slice_get scripts.blocks block) ≡ Some s
   pub not_closed : closed past s ≡ false
   pub idle : hand past s ≡ None
@@ -50,18 +57,57 @@ has_place statements.Commit = false
 has_place statements.Rollback = false
 has_place statement = true
 
--- the statement in hand of an open transaction gets its place, once, where the table that it uses is there
+-- A statement waits where nobody holds it up yet: before its Look for the first lock that it lacks, where this can't be
+-- granted, and after it for the end of the open transaction that is in the way of its new table's name.
+abbrev pub WaitsFor : Scripts → Past → ℕ → Want → Option Past → Type 0
+WaitsFor scripts past x (wants.Table table mode) look =
+    (look ≡ None) × (lacking scripts past x ≡ Some (claim past x table mode)) × (grantable past (claim past x table mode) ≡ false)
+WaitsFor scripts past x (wants.Ends y) look = IsSome look × (option_and_then (name_taker past x) (in_hand scripts past (session_of past x)) ≡ Some y) × (acts_of past (session_of past x) ≡ [])
+
+pub record WaitRule (scripts : Scripts) (past : Past) (x : ℕ) (want : Want) : Type 0 where
+  pub open_xact : xact_of past (session_of past x) ≡ Some x
+  pub in_step : can_go_on past (session_of past x) ≡ true
+  pub waits_for : WaitsFor scripts past x want (look_of past (session_of past x))
+  pub not_refused : cause_of scripts past (session_of past x) ≡ None
+
+-- a lock is got that can be granted: the one that the transaction waits for, or the first that its statement lacks before its
+-- Look
+pub record LacksLock (scripts : Scripts) (past : Past) (x : ℕ) (request : Claim) : Type 0 where
+  pub not_waiting : is_waiting past request ≡ false
+  pub lacks : lacking scripts past x ≡ Some request
+  pub before_look : look_of past (session_of past x) ≡ None
+  pub not_refused : cause_of scripts past (session_of past x) ≡ None
+
+-- granted locks come by ascending table number
+abbrev pub Ascends : Past → ℕ → Type 0
+Ascends (Lock y before mode ∷ past) table = before ≤ table
+Ascends past table = Unit {0}
+
+pub record WaitsForLock (past : Past) (request : Claim) : Type 0 where
+  pub waits : is_waiting past request ≡ true
+  pub ascends : Ascends past request.table
+
+pub record LockRule (scripts : Scripts) (past : Past) (x table : ℕ) (mode : Mode) : Type 0 where
+  pub open_xact : xact_of past (session_of past x) ≡ Some x
+  pub can_be : grantable past (claim past x table mode) ≡ true
+  pub asked : WaitsForLock past (claim past x table mode) ⊎ LacksLock scripts past x (claim past x table mode)
+
+-- the statement in hand of an open transaction gets its place, once, where the table that it uses is there and its locks are
+-- held
 pub record LookRule (scripts : Scripts) (past : Past) (x : ℕ) : Type 0 where
   pub open_xact : xact_of past (session_of past x) ≡ Some x
   pub statement : option_map has_place (in_hand scripts past (session_of past x)) ≡ Some true
   pub first : look_of past (session_of past x) ≡ None
+  pub locked : lacking scripts past x ≡ None
   pub not_refused : cause_of scripts past (session_of past x) ≡ None
 
--- what the statement does is of an open transaction that has looked, comes first, and no cause of refusal is true
+-- what the statement does is of an open transaction that has looked and holds its locks, comes first, and no cause of refusal
+-- is true
 pub record ActRule (scripts : Scripts) (past : Past) (x : ℕ) : Type 0 where
   pub open_xact : xact_of past (session_of past x) ≡ Some x
   pub looked : IsSome (look_of past (session_of past x))
   pub first : acts_of past (session_of past x) ≡ []
+  pub locked : lacking scripts past x ≡ None
   pub not_refused : cause_of scripts past (session_of past x) ≡ None
 
 -- the database at the statement's Look, for its transaction
@@ -76,6 +122,7 @@ Creates statement name shape = ⊥
 
 pub record MakeRule (scripts : Scripts) (past : Past) (x table : ℕ) (name : List ℕ) (shape : List Column) : Type 0 where
   pub act : ActRule scripts past x
+  pub free : first_open past x (makers past name) ≡ None
   pub creates : Creates (in_hand scripts past (session_of past x)) name shape
   pub number : table ≡ length past
 
@@ -177,6 +224,8 @@ pub record CloseRule (scripts : Scripts) (past : Past) (s : ℕ) : Type 0 where
 abbrev pub Rule : Scripts → Past → Entry → Type 0
 Rule scripts past (Give s block) = GiveRule scripts past s block
 Rule scripts past (Start s level) = StartRule scripts past s level
+Rule scripts past (Wait x want) = WaitRule scripts past x want
+Rule scripts past (Lock x table mode) = LockRule scripts past x table mode
 Rule scripts past (Look x) = LookRule scripts past x
 Rule scripts past (Make x table name shape) = MakeRule scripts past x table name shape
 Rule scripts past (Add x table row) = AddRule scripts past x table row

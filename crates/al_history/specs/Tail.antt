@@ -1,7 +1,7 @@
 -- What stands together at the end of a statement.
 use Rattle.std.specs.Prelude.{◌≡◌, ℕ, ◌∷◌, length, Bool, true, false, Option, Some, None}
 use Rattle.al_history.specs.declared.entry.Entry.{Entry}
-use Rattle.al_history.specs.declared.entry.Entry.TheVariants.{Done, Refuse, Commit, Abort, Cancel, End, Close}
+use Rattle.al_history.specs.declared.entry.Entry.TheVariants.{Lock, Done, Refuse, Commit, Abort, Cancel, End, Close}
 use Rattle.al_history.specs.declared.entry.Cause.TheVariants as causes
 use Rattle.al_history.specs.declared.entry.Reply.TheVariants as replies
 use Rattle.al_history.specs.declared.entry.Tag.TheVariants as tags
@@ -35,13 +35,14 @@ if_last (Some statement) next = None
 
 -- the entry that has to come next, where one has to: after a Cancel the Refuse of the statement in hand; after a Refuse
 -- the Abort of an open transaction; after the last Done the Commit of an implicit one; after these the Done of a COMMIT
--- or ROLLBACK, the End of the step, or the Close of an idle session
+-- or ROLLBACK, the End of the step, or the Close of an idle session. Locks that become free are granted in between.
 abbrev pub owed : Scripts → Past → Option Entry
 owed scripts (Cancel s ∷ past) = Some (Refuse s (causes.Cancelled (length past)))
 owed scripts (Refuse s cause ∷ past) = Some (abort_or_end (xact_of past s) s)
 owed scripts (Done s reply ∷ past) = if_last (in_hand scripts (Done s reply ∷ past) s) (commit_or_end (implicit_of (Done s reply ∷ past) s) s)
 owed scripts (Commit x ∷ past) = Some (done_or_end (in_hand scripts past (session_of past x)) (session_of past x))
 owed scripts (Abort x ∷ past) = Some (after_abort (hand past (session_of past x)) (refused past (session_of past x)) (session_of past x))
+owed scripts (Lock x table mode ∷ past) = owed scripts past
 owed scripts past = None
 
 -- the entry is the one that is owed, where one is

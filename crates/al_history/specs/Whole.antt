@@ -1,7 +1,7 @@
 -- The journal of a whole run: what the driver gives and closes, and who goes on in between (src/test/isolation/README).
-use Rattle.std.specs.Prelude.{◌≡◌, ℕ, zero, suc, List, [], ◌∷◌, ◌++◌, ◌+◌, ◌<◌, ◌≤◌, ◌==◌, Bool, true, false, cond, map, length, Option, Some, None, slice_get, option_map, unwrap_or, option_and_then, is_some}
+use Rattle.std.specs.Prelude.{◌≡◌, ℕ, zero, suc, List, [], ◌∷◌, ◌++◌, ◌+◌, ◌<◌, ◌≤◌, ◌||◌, nat_le, Bool, true, false, not, cond, length, Option, Some, None, is_some, slice_get, option_map, unwrap_or, option_and_then}
 use Rattle.al_history.specs.declared.entry.Entry.{Entry}
-use Rattle.al_history.specs.declared.entry.Entry.TheVariants.{Give, Start, Look, Make, Add, Read, Alter, Done, Refuse, Commit, Abort, Cancel, End, Close}
+use Rattle.al_history.specs.declared.entry.Entry.TheVariants.{Give, Start, Wait, Lock, Look, Make, Add, Read, Alter, Done, Refuse, Commit, Abort, Cancel, End, Close}
 use Rattle.al_history.specs.declared.spec.Block.{Block}
 use Rattle.al_history.specs.declared.spec.Part.{Part}
 use Rattle.al_history.specs.declared.spec.Part.TheVariants as parts
@@ -13,7 +13,9 @@ use Rattle.al_history.specs.declared.run.Run.{Run}
 use Rattle.al_history.specs.Past.{Past, past_of}
 use Rattle.al_history.specs.Hand.{hand, session_of, closed}
 use Rattle.al_history.specs.Tail.{owed}
-use Rattle.al_history.specs.Legal.{IsLegal, HoldAlways}
+use Rattle.al_history.specs.Waits.{can_go_on}
+use Rattle.al_history.specs.Locks.{is_grant}
+use Rattle.al_history.specs.Legal.{Unless, IsLegal, HoldAlways}
 
 -- the driver's entries, oldest first: the blocks that it gives, the steps that it cancels and the sessions that it closes
 abbrev pub driver : Past → List Entry
@@ -32,25 +34,9 @@ abbrev pub setup_blocks : ℕ → List Block → List ℕ
 setup_blocks number [] = []
 setup_blocks number (b ∷ blocks) = cond (is_setup b.part) (number ∷ setup_blocks (number + 1) blocks) (setup_blocks (number + 1) blocks)
 
--- a block is given to its session; setup blocks go to the control session, which is session 0
-abbrev pub given : Spec → ℕ → Entry
-given spec block = Give (unwrap_or (option_map (λ (b : Block). b.session) (slice_get spec.blocks block)) 0) block
-
--- sessions are closed in ascending order
-abbrev pub closes : ℕ → ℕ → List Entry
-closes first zero = []
-closes first (suc count) = Close first ∷ closes (first + 1) count
-
--- the blocks up to this one
-abbrev pub up_to : ℕ → List ℕ → List ℕ
-up_to last [] = []
-up_to last (block ∷ blocks) = cond (block == last) (block ∷ []) (block ∷ up_to last blocks)
-
--- All setup blocks in order, then the steps of the permutation in order; then the sessions of the file are closed, and
--- the control session last. Where a setup block was refused, the run ends there, and all sessions are closed.
-abbrev pub wanted : Spec → List ℕ → Option ℕ → List Entry
-wanted spec steps None = map (given spec) (setup_blocks 0 spec.blocks ++ steps) ++ closes 1 (length spec.sessions) ++ Close 0 ∷ []
-wanted spec steps (Some block) = map (given spec) (up_to block (setup_blocks 0 spec.blocks)) ++ closes 0 (length spec.sessions + 1)
+-- the session that a block is given to; setup blocks go to the control session, which is session 0
+abbrev pub session_for : Spec → ℕ → ℕ
+session_for spec block = unwrap_or (option_map (λ (b : Block). b.session) (slice_get spec.blocks block)) 0
 
 abbrev pub or_else : Option ℕ → Option ℕ → Option ℕ
 or_else None other = other
@@ -71,9 +57,89 @@ abbrev pub setup_by : Option ℕ → Setup
 setup_by None = setups.Done
 setup_by (Some block) = setups.Failed block
 
--- a session can go on where it has a step in hand
-abbrev pub can_go_on : Past → ℕ → Bool
-can_go_on past s = is_some (hand past s)
+-- how many blocks have been given
+abbrev pub gives : Past → ℕ
+gives [] = 0
+gives (Give s block ∷ past) = gives past + 1
+gives (e ∷ past) = gives past
+
+-- whether a step was cancelled or a session closed: then no block is given any more
+abbrev pub ended : Past → Bool
+ended [] = false
+ended (Cancel s ∷ past) = true
+ended (Close s ∷ past) = true
+ended (e ∷ past) = ended past
+
+-- so many sessions from the first on, in ascending order
+abbrev pub sessions_from : ℕ → ℕ → List ℕ
+sessions_from first zero = []
+sessions_from first (suc count) = first ∷ sessions_from (first + 1) count
+
+-- the first in a list of sessions of which a test is true
+abbrev pub first_such : (ℕ → Bool) → List ℕ → Option ℕ
+first_such test [] = None
+first_such test (s ∷ sessions) = cond (test s) (Some s) (first_such test sessions)
+
+-- a session is busy where it has a step in hand
+abbrev pub is_busy : Past → ℕ → Bool
+is_busy past s = is_some (hand past s)
+
+abbrev pub is_unclosed : Past → ℕ → Bool
+is_unclosed past s = not (closed past s)
+
+-- the block that comes next: all setup blocks in the file's order, then the steps of the permutation in order
+abbrev pub next_block : Spec → List ℕ → Past → Option ℕ
+next_block spec steps past = slice_get (setup_blocks 0 spec.blocks ++ steps) (gives past)
+
+-- A block is given unless its session is busy, or the list has ended. So a step for a busy session isn't given, and ends the
+-- list, since a cancel comes next.
+abbrev pub give_next : Spec → Past → Option ℕ → Option Entry
+give_next spec past None = None
+give_next spec past (Some block) = cond (ended past || is_busy past (session_for spec block)) None (Some (Give (session_for spec block) block))
+
+-- the busy session that is cancelled: the least
+abbrev pub cancel_due : Spec → Past → Option Entry
+cancel_due spec past = option_map (λ (s : ℕ). Cancel s) (first_such (is_busy past) (0 ∷ sessions_from 1 (length spec.sessions)))
+
+-- a setup block that still waits is cancelled: no step of the permutation has been given yet
+abbrev pub setup_cancel_due : Spec → Past → Option Entry
+setup_cancel_due spec past = cond (nat_le (gives past) (length (setup_blocks 0 spec.blocks))) (cancel_due spec past) None
+
+abbrev pub or_next : Option Entry → Option Entry → Option Entry
+or_next None other = other
+or_next (Some e) other = Some e
+
+-- what the driver gives or cancels next: it cancels a setup block that still waits; else it gives the next block, where one may
+-- be given; else it cancels a busy session
+abbrev pub step_due : Spec → List ℕ → Past → Option Entry
+step_due spec steps past = or_next (setup_cancel_due spec past) (or_next (give_next spec past (next_block spec steps past)) (cancel_due spec past))
+
+-- a setup part that failed ends the run
+abbrev pub unless_failed : Option ℕ → Option Entry → Option Entry
+unless_failed None due = due
+unless_failed (Some block) due = None
+
+-- the order in which sessions are closed: those of the file and then the control session; all in ascending order where the
+-- setup part failed
+abbrev pub closing_order : Spec → Option ℕ → List ℕ
+closing_order spec None = sessions_from 1 (length spec.sessions) ++ 0 ∷ []
+closing_order spec (Some block) = 0 ∷ sessions_from 1 (length spec.sessions)
+
+abbrev pub close_due : Spec → Past → Option Entry
+close_due spec past = option_map (λ (s : ℕ). Close s) (first_such (is_unclosed past) (closing_order spec (failed_setup spec past)))
+
+-- the driver's next entry: it gives and cancels, unless the setup part failed, and then closes the sessions. None where all is
+-- done.
+abbrev pub due : Spec → List ℕ → Past → Option Entry
+due spec steps past = or_next (unless_failed (failed_setup spec past) (step_due spec steps past)) (close_due spec past)
+
+-- each entry of the driver was due at its place
+abbrev pub AsDue : Spec → List ℕ → Past → Type 0
+AsDue spec steps [] = Unit {0}
+AsDue spec steps (Give s block ∷ past) = (due spec steps past ≡ Some (Give s block)) × AsDue spec steps past
+AsDue spec steps (Cancel s ∷ past) = (due spec steps past ≡ Some (Cancel s)) × AsDue spec steps past
+AsDue spec steps (Close s ∷ past) = (due spec steps past ≡ Some (Close s)) × AsDue spec steps past
+AsDue spec steps (e ∷ past) = AsDue spec steps past
 
 -- no session can go on
 abbrev pub IsIdle : Past → Type 0
@@ -92,7 +158,8 @@ abbrev pub if_in_step : Option ℕ → Type 0 → Type 0
 if_in_step None turn = Unit {0}
 if_in_step (Some block) turn = turn
 
--- a block is given, and a step cancelled, where no session can go on; what is no part of a statement's tail is of the least that can
+-- a block is given, and a step cancelled, where no session can go on; what is no part of a statement's tail, and no lock of a
+-- request that waits, is of the least that can
 abbrev pub InTurn : Scripts → Past → Entry → Type 0
 InTurn scripts past (Give s block) = IsIdle past
 InTurn scripts past (Cancel s) = IsIdle past
@@ -101,6 +168,8 @@ InTurn scripts past (Start s level) = IsTurn (owed scripts past) past s
 InTurn scripts past (Done s reply) = IsTurn (owed scripts past) past s
 InTurn scripts past (Refuse s cause) = IsTurn (owed scripts past) past s
 InTurn scripts past (End s) = IsTurn (owed scripts past) past s
+InTurn scripts past (Wait x want) = IsTurn (owed scripts past) past (session_of past x)
+InTurn scripts past (Lock x table mode) = Unless (is_grant past (Lock x table mode)) (IsTurn (owed scripts past) past (session_of past x))
 InTurn scripts past (Look x) = IsTurn (owed scripts past) past (session_of past x)
 InTurn scripts past (Make x table name shape) = IsTurn (owed scripts past) past (session_of past x)
 InTurn scripts past (Add x table row) = IsTurn (owed scripts past) past (session_of past x)
@@ -113,11 +182,12 @@ abbrev pub Driven : Scripts → Past → Type 0
 Driven scripts [] = Unit {0}
 Driven scripts (e ∷ past) = InTurn scripts past e × Driven scripts past
 
--- The driver did what the spec and the permutation want, each entry came in its turn, and at the end every session is
--- closed: so each statement that was given is done or refused once, or stands after a refusal in its step.
+-- Each entry of the driver was due, each entry came in its turn, and the driver has nothing left to do: every session is closed.
+-- So each statement that was given is done or refused once, or stands after a refusal in its step.
 pub record IsWhole (spec : Spec) (scripts : Scripts) (steps : List ℕ) (past : Past) : Type 0 where
-  pub driven_by : driver past ≡ wanted spec steps (failed_setup spec past)
+  pub as_due : AsDue spec steps past
   pub in_turn : Driven scripts past
+  pub all_done : due spec steps past ≡ None
   pub all_closed : (s : ℕ) → s ≤ length spec.sessions → closed past s ≡ true
 
 -- the run of the permutation of this number: its journal is legal and whole, each valid constraint holds throughout, and

@@ -1,5 +1,5 @@
 use crate::{NumberedRowList, RewrittenList, Shape};
-use al_modes::Level;
+use al_modes::{Level, Mode};
 use al_values::{Name, NameList, Row, RowList};
 
 /// A reply that is a command tag.
@@ -91,6 +91,23 @@ pub struct Rewritten {
     pub rows: NumberedRowList,
 }
 
+/// What a statement waits for.
+#[derive(Clone, Copy, Debug, PartialEq, Eq)]
+pub enum Want {
+    /// The lock of a table (13.3.1).
+    Table {
+        /// The table's number.
+        table: u32,
+        /// The mode.
+        mode: Mode,
+    },
+    /// The end of another transaction, which has made a table of the wanted name.
+    Ends {
+        /// The transaction.
+        xact: u32,
+    },
+}
+
 /// An entry of a journal. Transactions are named by the place of their Start, tables by that of their Make, rows by
 /// that of their Add.
 #[derive(Debug, Drop)]
@@ -108,6 +125,22 @@ pub enum Entry {
         session: u32,
         /// The isolation level.
         level: Level,
+    },
+    /// A statement waits.
+    Wait {
+        /// The transaction.
+        xact: u32,
+        /// What it waits for.
+        want: Want,
+    },
+    /// A lock of a table is got. It is held to the transaction's end.
+    Lock {
+        /// The transaction.
+        xact: u32,
+        /// The table's number.
+        table: u32,
+        /// The mode.
+        mode: Mode,
     },
     /// The place of a statement: what it reads is what stands before.
     Look {

@@ -8,9 +8,9 @@ mod run;
 mod spec;
 mod statement;
 
-pub use al_modes::Level;
+pub use al_modes::{Level, Mode};
 use al_values::{IdList, ListOf};
-pub use entry::{Cause, Entry, NumberedRow, Reply, Rewritten, Tag};
+pub use entry::{Cause, Entry, NumberedRow, Reply, Rewritten, Tag, Want};
 pub use history::History;
 pub use run::{Run, Setup};
 pub use spec::{Block, Part, Spec, SpecFault};
