@@ -4,7 +4,7 @@ use Rattle.std.specs.Prelude.{◌==◌}
 use Rattle.std.proofs.lemmas.List.{reverse-append, length-reverse}
 use Rattle.std.proofs.lemmas.Bool.{eq-eqb}
 use Rattle.al_history.specs.declared.entry.Entry.{Entry}
-use Rattle.al_history.specs.declared.entry.Entry.TheVariants.{Give, Start, Look, Make, Add, Read, Alter, Done, Refuse, Commit, Abort, Cancel, End, Close}
+use Rattle.al_history.specs.declared.entry.Entry.TheVariants.{Give, Start, Wait, Lock, Look, Make, Add, Read, Alter, Done, Refuse, Commit, Abort, Cancel, End, Close}
 use Rattle.al_history.specs.Past.{Past}
 use Rattle.al_history.specs.Hand.{xact_of}
 use Rattle.al_history.specs.Fate.{is_that}
@@ -29,6 +29,8 @@ pub xact_below : (past : Past) (s x : ℕ) → xact_of past s ≡ Some x → x <
 xact_below [] s x e = absurd cc
 xact_below (Give r block ∷ past) s x e = omega (arith, xact_below past s x e)
 xact_below (Start r level ∷ past) s x e = some_of_cond (r == s) (Some (length past)) (xact_of past s) x (λ y. y < suc (length past)) (λ h. let same : length past ≡ x = cc in omega arith) (λ h. omega (arith, xact_below past s x h)) e
+xact_below (Wait y want ∷ past) s x e = omega (arith, xact_below past s x e)
+xact_below (Lock y table mode ∷ past) s x e = omega (arith, xact_below past s x e)
 xact_below (Look y ∷ past) s x e = omega (arith, xact_below past s x e)
 xact_below (Make y table name shape ∷ past) s x e = omega (arith, xact_below past s x e)
 xact_below (Add y table row ∷ past) s x e = omega (arith, xact_below past s x e)

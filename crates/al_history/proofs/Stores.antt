@@ -3,7 +3,7 @@ use Rattle.std.proofs.Common.{◌≡◌, ℕ, suc, ◌+◌, ◌<◌, ◌≤◌, 
 use Rattle.std.specs.Prelude.{◌||◌, ◌==◌, is_some}
 use Rattle.std.proofs.lemmas.Bool.{ne_eqb, eq-eqb, eqb-true}
 use Rattle.al_values.specs.declared.scalar.Value.{Value}
-use Rattle.al_history.specs.declared.entry.Entry.TheVariants.{Give, Start, Look, Make, Add, Read, Alter, Done, Refuse, Commit, Abort, Cancel, End, Close}
+use Rattle.al_history.specs.declared.entry.Entry.TheVariants.{Give, Start, Wait, Lock, Look, Make, Add, Read, Alter, Done, Refuse, Commit, Abort, Cancel, End, Close}
 use Rattle.al_history.specs.declared.statement.Column.{Column}
 use Rattle.al_history.specs.declared.statement.Statement.{Statement}
 use Rattle.al_history.specs.declared.statement.Statement.TheVariants as statements
@@ -119,6 +119,8 @@ store_sound : (scripts : Scripts) (past : Past) → Fits scripts past → AreSou
 store_sound scripts [] fits = tt
 store_sound scripts (Give s block ∷ past) fits = sound_more 0 (length past) _ _ (omega arith) (store_sound scripts past fits)
 store_sound scripts (Start s level ∷ past) fits = sound_more 0 (length past) _ _ (omega arith) (store_sound scripts past fits)
+store_sound scripts (Wait x want ∷ past) fits = sound_more 0 (length past) _ _ (omega arith) (store_sound scripts past fits)
+store_sound scripts (Lock x table mode ∷ past) fits = sound_more 0 (length past) _ _ (omega arith) (store_sound scripts past fits)
 store_sound scripts (Look x ∷ past) fits = sound_more 0 (length past) _ _ (omega arith) (store_sound scripts past fits)
 store_sound scripts (Make x table name shape ∷ past) fits = sound_push 0 (length past) _ _ _ (omega arith) fits.0.number (omega arith) refl (store_sound scripts past fits.1)
 store_sound scripts (Add x table row ∷ past) fits = sound_with 0 (length past) _ table _ _ (omega arith) (λ t. refl) (λ l t sound. row_keeps (length past) x (sees past (Some x)) row l t sound) (store_sound scripts past fits.1)
@@ -379,6 +381,8 @@ pub serves_all : (scripts : Scripts) (past : Past) (f : ℕ → Bool) → Fits s
 serves_all scripts [] f fits can = refl
 serves_all scripts (Give s block ∷ past) f fits can = serves_all scripts past f fits (still past _ f (λ z. refl) can)
 serves_all scripts (Start s level ∷ past) f fits can = serves_all scripts past f fits (still past _ f (λ z. refl) can)
+serves_all scripts (Wait x want ∷ past) f fits can = serves_all scripts past f fits (still past _ f (λ z. refl) can)
+serves_all scripts (Lock x table mode ∷ past) f fits can = serves_all scripts past f fits (still past _ f (λ z. refl) can)
 serves_all scripts (Look x ∷ past) f fits can = serves_all scripts past f fits (still past _ f (λ z. refl) can)
 serves_all scripts (Make x table name shape ∷ past) f fits can =
     let before : CanSee past f = still past _ f (λ z. refl) can in

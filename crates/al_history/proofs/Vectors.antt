@@ -1,13 +1,14 @@
 -- A whole run, entry by entry: a table is made and filled by the control session, and a session adds a column and reads.
-use Rattle.std.specs.Prelude.{◌≡◌, ℕ, zero, suc, List, [], ◌∷◌, ◌++◌, ◌<◌, ◌≤◌, ◌==◌, Bool, true, false, cond, Some, None, is_some, reverse, length, codes, pos, refl}
+use Rattle.std.specs.Prelude.{◌≡◌, ℕ, zero, suc, List, [], ◌∷◌, ◌++◌, ◌<◌, ◌≤◌, ◌==◌, Bool, true, false, cond, Some, None, reverse, length, codes, pos, refl}
 use Rattle.std.proofs.Common.{arith, inl}
 use Rattle.al_values.specs.declared.scalar.Value.{Value}
 use Rattle.al_values.specs.declared.scalar.Value.TheVariants as values
 use Rattle.al_modes.specs.declared.level.Level.TheVariants as levels
+use Rattle.al_modes.specs.declared.mode.Mode.TheVariants.{AccessShare, RowExclusive, AccessExclusive}
 use Rattle.al_history.specs.declared.entry.Tag.TheVariants as tags
 use Rattle.al_history.specs.declared.entry.Reply.TheVariants as replies
 use Rattle.al_history.specs.declared.entry.Entry.{Entry}
-use Rattle.al_history.specs.declared.entry.Entry.TheVariants.{Give, Start, Look, Make, Add, Read, Alter, Done, Commit, End, Close}
+use Rattle.al_history.specs.declared.entry.Entry.TheVariants.{Give, Start, Lock, Look, Make, Add, Read, Alter, Done, Commit, End, Close}
 use Rattle.al_history.specs.declared.spec.Part.TheVariants as parts
 use Rattle.al_history.specs.declared.spec.Spec.{Spec}
 use Rattle.al_history.specs.declared.statement.Column.{Column}
@@ -20,7 +21,7 @@ use Rattle.al_history.specs.Hand.{hand, closed}
 use Rattle.al_history.specs.View.{committed}
 use Rattle.al_history.specs.Legal.{IsLegal}
 use Rattle.al_history.specs.Whole.{IsIdle, Driven, IsWhole, failed_setup}
-use Rattle.al_history.proofs.VectorsRules.{◌▸◌, in_turn_seven, may_give, may_start, may_look, may_act, may_make, may_add, may_read, may_alter, may_be_done, may_commit, may_end, may_close}
+use Rattle.al_history.proofs.VectorsRules.{◌▸◌, in_turn_seven, in_turn_eight, may_give, may_start, may_lock, may_look, may_act, may_make, may_add, may_read, may_alter, may_be_done, may_commit, may_end, may_close}
 
 -- names are bytes
 abbrev pub name_t : List ℕ
@@ -115,7 +116,7 @@ ended_create = done_create ++ Commit 1 ∷ End 0 ∷ []
 
 -- then its row is added,
 abbrev pub looked_insert : List Entry
-looked_insert = ended_create ++ Give 0 1 ∷ Start 0 levels.ReadCommitted ∷ Look 8 ∷ []
+looked_insert = ended_create ++ Give 0 1 ∷ Start 0 levels.ReadCommitted ∷ Lock 8 3 RowExclusive ∷ Look 8 ∷ []
 
 abbrev pub acted_insert : List Entry
 acted_insert = looked_insert ++ Add 8 3 (int 1 ∷ []) ∷ []
@@ -128,20 +129,20 @@ ended_insert = done_insert ++ Commit 8 ∷ End 0 ∷ []
 
 -- then the column,
 abbrev pub looked_alter : List Entry
-looked_alter = ended_insert ++ Give 1 2 ∷ Start 1 levels.ReadCommitted ∷ Look 15 ∷ []
+looked_alter = ended_insert ++ Give 1 2 ∷ Start 1 levels.ReadCommitted ∷ Lock 16 3 AccessExclusive ∷ Look 16 ∷ []
 
 abbrev pub ended_alter : List Entry
-ended_alter = looked_alter ++ Alter 15 3 0 [] ∷ Done 1 (replies.Tag tags.AlterTable 0) ∷ Commit 15 ∷ End 1 ∷ []
+ended_alter = looked_alter ++ Alter 16 3 0 [] ∷ Done 1 (replies.Tag tags.AlterTable 0) ∷ Commit 16 ∷ End 1 ∷ []
 
 -- and all is read.
 abbrev pub looked_select : List Entry
-looked_select = ended_alter ++ Give 1 3 ∷ Start 1 levels.ReadCommitted ∷ Look 22 ∷ []
+looked_select = ended_alter ++ Give 1 3 ∷ Start 1 levels.ReadCommitted ∷ Lock 24 3 AccessShare ∷ Look 24 ∷ []
 
 abbrev pub acted_select : List Entry
-acted_select = looked_select ++ Read 22 (name_a ∷ name_b ∷ []) ((int 1 ∷ int 5 ∷ []) ∷ []) ∷ []
+acted_select = looked_select ++ Read 24 (name_a ∷ name_b ∷ []) ((int 1 ∷ int 5 ∷ []) ∷ []) ∷ []
 
 abbrev pub ended_select : List Entry
-ended_select = acted_select ++ Done 1 (replies.Rows 24) ∷ Commit 22 ∷ End 1 ∷ []
+ended_select = acted_select ++ Done 1 (replies.Rows 27) ∷ Commit 24 ∷ End 1 ∷ []
 
 -- the journal of the whole run
 abbrev pub journal : List Entry
@@ -151,59 +152,62 @@ journal = ended_select ++ Close 1 ∷ Close 0 ∷ []
 pub create_is_legal : (more : List ScriptBlock) → IsLegal (scripts_with more) ended_create
 create_is_legal more =
     tt
-    ▸ may_give refl refl refl tt
-    ▸ may_start refl refl tt
-    ▸ may_look refl refl refl refl tt
-    ▸ may_make (may_act refl refl refl refl) (refl, refl) refl tt
-    ▸ may_be_done refl tt
-    ▸ may_commit refl refl refl refl refl
-    ▸ may_end refl (inl refl) refl refl
+    ▸ may_give (omega arith) refl refl refl refl tt
+    ▸ may_start refl refl refl tt
+    ▸ may_look refl refl refl refl refl refl tt tt
+    ▸ may_make (may_act refl refl refl refl refl) refl (refl, refl) refl refl tt
+    ▸ may_be_done refl refl tt
+    ▸ may_commit refl refl refl refl refl refl
+    ▸ may_end refl (inl refl) refl refl refl
 
 -- its row is added in another
 pub insert_is_legal : (more : List ScriptBlock) → IsLegal (filled_with more) ended_insert
 insert_is_legal more =
     create_is_legal (alone 0 insert ∷ more)
-    ▸ may_give refl refl refl tt
-    ▸ may_start refl refl tt
-    ▸ may_look refl refl refl refl tt
-    ▸ may_add (may_act refl refl refl refl) (refl, refl) tt
-    ▸ may_be_done refl tt
-    ▸ may_commit refl refl refl refl refl
-    ▸ may_end refl (inl refl) refl refl
+    ▸ may_give (omega arith) refl refl refl refl tt
+    ▸ may_start refl refl refl tt
+    ▸ may_lock refl refl refl refl refl refl refl tt tt
+    ▸ may_look refl refl refl refl refl refl tt tt
+    ▸ may_add (may_act refl refl refl refl refl) (refl, refl) refl tt tt
+    ▸ may_be_done refl refl tt
+    ▸ may_commit refl refl refl refl refl refl
+    ▸ may_end refl (inl refl) refl refl refl
 
 -- another session adds a column
 pub alter_is_legal : IsLegal scripts ended_alter
 alter_is_legal =
     insert_is_legal steps
-    ▸ may_give refl refl refl tt
-    ▸ may_start refl refl tt
-    ▸ may_look refl refl refl refl tt
-    ▸ may_alter (may_act refl refl refl refl) (refl, λ c there. absurd c.demand) refl tt
-    ▸ may_be_done refl tt
-    ▸ may_commit refl refl refl refl refl
-    ▸ may_end refl (inl refl) refl refl
+    ▸ may_give (omega arith) refl refl refl refl tt
+    ▸ may_start refl refl refl tt
+    ▸ may_lock refl refl refl refl refl refl refl tt tt
+    ▸ may_look refl refl refl refl refl refl tt refl
+    ▸ may_alter (may_act refl refl refl refl refl) (refl, λ c there. absurd c.demand) refl refl tt refl
+    ▸ may_be_done refl refl tt
+    ▸ may_commit refl refl refl refl refl refl
+    ▸ may_end refl (inl refl) refl refl refl
 
 -- and reads the row with the default in the new column
 pub select_is_legal : IsLegal scripts ended_select
 select_is_legal =
     alter_is_legal
-    ▸ may_give refl refl refl tt
-    ▸ may_start refl refl tt
-    ▸ may_look refl refl refl refl tt
-    ▸ may_read (may_act refl refl refl refl) (refl, refl) tt
-    ▸ may_be_done refl tt
-    ▸ may_commit refl refl refl refl refl
-    ▸ may_end refl (inl refl) refl refl
+    ▸ may_give (omega arith) refl refl refl refl tt
+    ▸ may_start refl refl refl tt
+    ▸ may_lock refl refl refl refl refl refl refl tt tt
+    ▸ may_look refl refl refl refl refl refl tt tt
+    ▸ may_read (may_act refl refl refl refl refl) (refl, refl) refl tt tt
+    ▸ may_be_done refl refl tt
+    ▸ may_commit refl refl refl refl refl refl
+    ▸ may_end refl (inl refl) refl refl refl
 
 -- the whole journal is legal
 pub journal_is_legal : IsLegal scripts journal
 journal_is_legal =
     select_is_legal
-    ▸ may_close (omega arith) refl refl refl tt
-    ▸ may_close (omega arith) refl refl refl tt
+    ▸ may_close (omega arith) refl refl refl refl tt
+    ▸ may_close (omega arith) refl refl refl refl tt
 
--- the journal has thirty entries
-pub journal_length : length journal ≡ 30
+-- the journal has thirty-three entries
+pub journal_length : length journal ≡ 33
 journal_length = refl
 
 -- no setup block failed
@@ -211,15 +215,23 @@ pub none_failed : failed_setup spec (reverse journal) ≡ None
 none_failed = refl
 
 -- what is committed at its end: the table with its two columns, and its one row
-pub committed_at_end : committed scripts (reverse journal) ≡ record { number = 3; name = name_t; columns = column_a ∷ column_b ∷ []; constraints = []; rows = record { number = 10; version = 10; values = int 1 ∷ int 5 ∷ [] } ∷ [] } ∷ []
+pub committed_at_end : committed scripts (reverse journal) ≡ record { number = 3; name = name_t; columns = column_a ∷ column_b ∷ []; constraints = []; rows = record { number = 11; version = 11; values = int 1 ∷ int 5 ∷ [] } ∷ [] } ∷ []
 committed_at_end = refl
 
--- where no session could go on, none can after a whole step
-pub at_rest : (past : Past) (s block : ℕ) → IsIdle past → (r : ℕ) → is_some (cond (s == r) None (cond (s == r) (Some block) (hand past r))) ≡ false
-at_rest past s block idle r = by_test (s == r) where
-  by_test : (b : Bool) → is_some (cond b None (cond b (Some block) (hand past r))) ≡ false
+-- no session has a step in hand
+abbrev pub IsAtRest : Past → Type 0
+IsAtRest past = (r : ℕ) → hand past r ≡ None
+
+-- where no session had a step in hand, none has after a whole step
+pub at_rest : (past : Past) (s block : ℕ) → IsAtRest past → (r : ℕ) → cond (s == r) None (cond (s == r) (Some block) (hand past r)) ≡ None
+at_rest past s block rest r = by_test (s == r) where
+  by_test : (b : Bool) → cond b None (cond b (Some block) (hand past r)) ≡ None
   by_test true = refl
-  by_test false = idle r
+  by_test false = rest r
+
+-- and where none has one, none can go on
+pub idle : (past : Past) → IsAtRest past → IsIdle past
+idle past rest r = rw (rest r) refl
 
 -- no session is below the control session
 pub none_below : (A : ℕ → Type 0) (r : ℕ) → r < 0 → A r
@@ -230,37 +242,37 @@ pub zero_below : (P : ℕ → Bool) → P 0 ≡ false → (r : ℕ) → r < 1 �
 zero_below P at_zero zero lt = at_zero
 zero_below P at_zero (suc r) lt = absurd (omega arith)
 
--- no session can go on before the first block is given
-pub idle_at_first : IsIdle []
-idle_at_first r = refl
+-- no session has a step in hand before the first block is given
+pub rest_at_first : IsAtRest []
+rest_at_first r = refl
 
--- nor can one after the first setup block
-pub idle_after_create : IsIdle (reverse ended_create)
-idle_after_create r = at_rest [] 0 0 idle_at_first r
+-- nor has one after the first setup block
+pub rest_after_create : IsAtRest (reverse ended_create)
+rest_after_create r = at_rest [] 0 0 rest_at_first r
 
 -- nor after the second
-pub idle_after_insert : IsIdle (reverse ended_insert)
-idle_after_insert r = at_rest (reverse ended_create) 0 1 idle_after_create r
+pub rest_after_insert : IsAtRest (reverse ended_insert)
+rest_after_insert r = at_rest (reverse ended_create) 0 1 rest_after_create r
 
 -- nor after the first step
-idle_after_alter : IsIdle (reverse ended_alter)
-idle_after_alter r = at_rest (reverse ended_insert) 1 2 idle_after_insert r
+rest_after_alter : IsAtRest (reverse ended_alter)
+rest_after_alter r = at_rest (reverse ended_insert) 1 2 rest_after_insert r
 
 -- the first setup block is given at rest, and each entry of it is of the control session
 pub driven_create : (more : List ScriptBlock) → Driven (scripts_with more) (reverse ended_create)
-driven_create more = in_turn_seven tt tt (refl, none_below _) (refl, none_below _) (refl, none_below _) (refl, none_below _) idle_at_first tt
+driven_create more = in_turn_seven tt tt (refl, none_below _) (refl, none_below _) (refl, none_below _) (refl, none_below _) (idle [] rest_at_first) tt
 
 -- so is the second
 pub driven_insert : (more : List ScriptBlock) → Driven (filled_with more) (reverse ended_insert)
-driven_insert more = in_turn_seven tt tt (refl, none_below _) (refl, none_below _) (refl, none_below _) (refl, none_below _) idle_after_create (driven_create (alone 0 insert ∷ more))
+driven_insert more = in_turn_eight tt tt (refl, none_below _) (refl, none_below _) (refl, none_below _) (refl, none_below _) (refl, none_below _) (idle (reverse ended_create) rest_after_create) (driven_create (alone 0 insert ∷ more))
 
 -- so is the first step, whose entries are of session 1
 driven_alter : Driven scripts (reverse ended_alter)
-driven_alter = in_turn_seven tt tt (refl, zero_below _ refl) (refl, zero_below _ refl) (refl, zero_below _ refl) (refl, zero_below _ refl) idle_after_insert (driven_insert steps)
+driven_alter = in_turn_eight tt tt (refl, zero_below _ refl) (refl, zero_below _ refl) (refl, zero_below _ refl) (refl, zero_below _ refl) (refl, zero_below _ refl) (idle (reverse ended_insert) rest_after_insert) (driven_insert steps)
 
 -- and the second step
 driven_select : Driven scripts (reverse ended_select)
-driven_select = in_turn_seven tt tt (refl, zero_below _ refl) (refl, zero_below _ refl) (refl, zero_below _ refl) (refl, zero_below _ refl) idle_after_alter driven_alter
+driven_select = in_turn_eight tt tt (refl, zero_below _ refl) (refl, zero_below _ refl) (refl, zero_below _ refl) (refl, zero_below _ refl) (refl, zero_below _ refl) (idle (reverse ended_alter) rest_after_alter) driven_alter
 
 -- both sessions are closed at its end
 both_closed : (s : ℕ) → s ≤ 1 → closed (reverse journal) s ≡ true
@@ -270,4 +282,4 @@ both_closed (suc (suc s)) le = absurd (omega arith)
 
 -- the journal is that of a whole run of its permutation
 pub journal_is_whole : IsWhole spec scripts (2 ∷ 3 ∷ []) (reverse journal)
-journal_is_whole = record { driven_by = refl; in_turn = (tt, (tt, driven_select)); all_closed = both_closed }
+journal_is_whole = record { as_due = (refl, (refl, (refl, (refl, (refl, (refl, tt)))))); in_turn = (tt, (tt, driven_select)); all_done = refl; all_closed = both_closed }

@@ -1,7 +1,6 @@
 -- Transaction blocks: BEGIN, COMMIT, ROLLBACK, and a block that has failed.
-use Rattle.std.specs.Prelude.{◌≡◌, ℕ, List, [], ◌∷◌, ◌++◌, refl, reverse}
+use Rattle.std.specs.Prelude.{◌≡◌, List, [], ◌∷◌, ◌++◌, refl, reverse}
 use Rattle.std.proofs.Common.{inl, inr, arith}
-use Rattle.std.specs.Prelude.{Some, IsSome, false}
 use Rattle.al_modes.specs.declared.level.Level.TheVariants as levels
 use Rattle.al_history.specs.declared.entry.Tag.TheVariants as tags
 use Rattle.al_history.specs.declared.entry.Reply.TheVariants as replies
@@ -11,29 +10,19 @@ use Rattle.al_history.specs.declared.entry.Entry.TheVariants.{Give, Start, Look,
 use Rattle.al_history.specs.declared.statement.Statement.TheVariants as statements
 use Rattle.al_history.specs.declared.statement.Scripts.{Scripts}
 use Rattle.al_history.specs.View.{committed}
-use Rattle.al_history.specs.Legal.{MayCome, IsLegal}
-use Rattle.al_history.specs.Past.{Past}
-use Rattle.al_history.specs.Hand.{in_hand, xact_of, refused, hand, session_of}
-use Rattle.al_history.specs.Tail.{owed, Follows}
+use Rattle.al_history.specs.Legal.{IsLegal}
 use Rattle.al_history.proofs.Vectors.{name_t, name_a, column_a, insert, alone}
-use Rattle.al_history.proofs.VectorsRules.{◌▸◌, may_give, may_start, may_look, may_act, may_make, may_be_done, may_refuse, may_abort, may_cancel, may_end, may_close}
+use Rattle.al_history.proofs.VectorsRules.{◌▸◌, commits, rolls_back, may_give, may_start, may_look, may_act, may_make, may_be_done, may_refuse, may_abort, may_cancel, may_end, may_close, false_true, some_none}
 
 -- blocks of session 1: BEGIN, CREATE TABLE t (a integer), COMMIT, ROLLBACK, and an INSERT of t
 abbrev blocks : Scripts
 blocks = record { sessions = 2; blocks = alone 1 statements.Begin ∷ alone 1 (statements.CreateTable name_t (name_a ∷ [])) ∷ alone 1 statements.Commit ∷ alone 1 statements.Rollback ∷ alone 1 insert ∷ [] }
 
--- the Commit of a COMMIT, and the Abort of a ROLLBACK
-commits : {scripts : Scripts} {past : Past} {x : ℕ} → xact_of past (session_of past x) ≡ Some x → in_hand scripts past (session_of past x) ≡ Some statements.Commit → IsSome (hand past (session_of past x)) → refused past (session_of past x) ≡ false → Follows (owed scripts past) (Commit x) → MayCome scripts past (Commit x)
-commits open_xact is in_step none follows = record { rule = record { open_xact = open_xact; in_step = in_step; none_refused = none; ends = inr is }; follows = follows; alone = tt }
-
-rolls_back : {scripts : Scripts} {past : Past} {x : ℕ} → xact_of past (session_of past x) ≡ Some x → in_hand scripts past (session_of past x) ≡ Some statements.Rollback → Follows (owed scripts past) (Abort x) → MayCome scripts past (Abort x)
-rolls_back open_xact is follows = record { rule = record { open_xact = open_xact; refused_or_idle = inr is }; follows = follows; alone = tt }
-
 abbrev begun : List Entry
 begun = Give 1 0 ∷ Start 1 levels.ReadCommitted ∷ Done 1 (replies.Tag tags.Begin 0) ∷ End 1 ∷ []
 
 begun_is_legal : IsLegal blocks begun
-begun_is_legal = tt ▸ may_give refl refl refl tt ▸ may_start refl refl tt ▸ may_be_done refl tt ▸ may_end refl (inl refl) refl refl
+begun_is_legal = tt ▸ may_give (omega arith) refl refl refl refl tt ▸ may_start refl refl refl tt ▸ may_be_done refl refl tt ▸ may_end refl (inl refl) refl refl refl
 
 abbrev made : List Entry
 made = begun ++ Give 1 1 ∷ Look 1 ∷ Make 1 6 name_t (column_a ∷ []) ∷ Done 1 (replies.Tag tags.CreateTable 0) ∷ End 1 ∷ []
@@ -42,11 +31,11 @@ made = begun ++ Give 1 1 ∷ Look 1 ∷ Make 1 6 name_t (column_a ∷ []) ∷ Do
 made_is_legal : IsLegal blocks made
 made_is_legal =
     begun_is_legal
-    ▸ may_give refl refl refl tt
-    ▸ may_look refl refl refl refl tt
-    ▸ may_make (may_act refl refl refl refl) (refl, refl) refl tt
-    ▸ may_be_done refl tt
-    ▸ may_end refl (inl refl) refl refl
+    ▸ may_give (omega arith) refl refl refl refl tt
+    ▸ may_look refl refl refl refl refl refl tt tt
+    ▸ may_make (may_act refl refl refl refl refl) refl (refl, refl) refl refl tt
+    ▸ may_be_done refl refl tt
+    ▸ may_end refl (inl refl) refl refl refl
 
 -- nobody else sees the table yet
 not_committed : committed blocks (reverse made) ≡ []
@@ -56,10 +45,10 @@ not_committed = refl
 committed_is_legal : IsLegal blocks (made ++ Give 1 2 ∷ Commit 1 ∷ Done 1 (replies.Tag tags.Commit 0) ∷ End 1 ∷ [])
 committed_is_legal =
     made_is_legal
-    ▸ may_give refl refl refl tt
-    ▸ commits refl refl refl refl tt
-    ▸ may_be_done refl refl
-    ▸ may_end refl (inl refl) refl refl
+    ▸ may_give (omega arith) refl refl refl refl tt
+    ▸ commits refl refl refl refl refl tt
+    ▸ may_be_done refl refl refl
+    ▸ may_end refl (inl refl) refl refl refl
 
 -- ROLLBACK, after which the table isn't there
 abbrev rolled : List Entry
@@ -68,10 +57,10 @@ rolled = made ++ Give 1 3 ∷ Abort 1 ∷ Done 1 (replies.Tag tags.Rollback 0) �
 rolled_back_is_legal : IsLegal blocks rolled
 rolled_back_is_legal =
     made_is_legal
-    ▸ may_give refl refl refl tt
-    ▸ rolls_back refl refl tt
-    ▸ may_be_done refl refl
-    ▸ may_end refl (inl refl) refl refl
+    ▸ may_give (omega arith) refl refl refl refl tt
+    ▸ rolls_back refl refl refl tt
+    ▸ may_be_done refl refl refl
+    ▸ may_end refl (inl refl) refl refl refl
 
 gone : committed blocks (reverse rolled) ≡ []
 gone = refl
@@ -83,42 +72,42 @@ failed = begun ++ Give 1 4 ∷ Refuse 1 (causes.NoTable name_t) ∷ Abort 1 ∷ 
 failed_is_legal : IsLegal blocks failed
 failed_is_legal =
     begun_is_legal
-    ▸ may_give refl refl refl tt
-    ▸ may_refuse refl tt
-    ▸ may_abort refl (inl refl) refl
-    ▸ may_end refl (inr refl) refl refl
+    ▸ may_give (omega arith) refl refl refl refl tt
+    ▸ may_refuse refl refl tt
+    ▸ may_abort refl (inl refl) refl refl
+    ▸ may_end refl (inr refl) refl refl refl
 
 -- then every statement is refused but the two that end it, BEGIN among them
 refused_in_failed_is_legal : IsLegal blocks (failed ++ Give 1 0 ∷ Refuse 1 (causes.BlockFailed 5) ∷ End 1 ∷ [])
 refused_in_failed_is_legal =
     failed_is_legal
-    ▸ may_give refl refl refl tt
-    ▸ may_refuse refl tt
-    ▸ may_end refl (inr refl) refl refl
+    ▸ may_give (omega arith) refl refl refl refl tt
+    ▸ may_refuse refl refl tt
+    ▸ may_end refl (inr refl) refl refl refl
 
 -- and COMMIT rolls back
 commit_of_failed_is_legal : IsLegal blocks (failed ++ Give 1 2 ∷ Done 1 (replies.Tag tags.Rollback 0) ∷ End 1 ∷ [])
-commit_of_failed_is_legal = failed_is_legal ▸ may_give refl refl refl tt ▸ may_be_done refl tt ▸ may_end refl (inl refl) refl refl
+commit_of_failed_is_legal = failed_is_legal ▸ may_give (omega arith) refl refl refl refl tt ▸ may_be_done refl refl tt ▸ may_end refl (inl refl) refl refl refl
 
 -- COMMIT where no transaction is open changes nothing
 idle_commit_is_legal : IsLegal blocks (Give 1 2 ∷ Done 1 (replies.Tag tags.Commit 0) ∷ End 1 ∷ [])
-idle_commit_is_legal = tt ▸ may_give refl refl refl tt ▸ may_be_done refl tt ▸ may_end refl (inl refl) refl refl
+idle_commit_is_legal = tt ▸ may_give (omega arith) refl refl refl refl tt ▸ may_be_done refl refl tt ▸ may_end refl (inl refl) refl refl refl
 
 -- a step in a block is cancelled: the block fails, and its transaction is aborted
 cancelled_in_block_is_legal : IsLegal blocks (begun ++ Give 1 4 ∷ Cancel 1 ∷ Refuse 1 (causes.Cancelled 5) ∷ Abort 1 ∷ End 1 ∷ Give 1 4 ∷ Refuse 1 (causes.BlockFailed 6) ∷ [])
 cancelled_in_block_is_legal =
     begun_is_legal
-    ▸ may_give refl refl refl tt
-    ▸ may_cancel refl tt
-    ▸ may_refuse refl refl
-    ▸ may_abort refl (inl refl) refl
-    ▸ may_end refl (inr refl) refl refl
-    ▸ may_give refl refl refl tt
-    ▸ may_refuse refl tt
+    ▸ may_give (omega arith) refl refl refl refl tt
+    ▸ may_cancel refl refl tt
+    ▸ may_refuse refl refl refl
+    ▸ may_abort refl (inl refl) refl refl
+    ▸ may_end refl (inr refl) refl refl refl
+    ▸ may_give (omega arith) refl refl refl refl tt
+    ▸ may_refuse refl refl tt
 
 -- a session with an open block is closed: its transaction is aborted first
 closed_in_block_is_legal : IsLegal blocks (begun ++ Abort 1 ∷ Close 1 ∷ [])
-closed_in_block_is_legal = begun_is_legal ▸ may_abort refl (inr refl) tt ▸ may_close (omega arith) refl refl refl refl
+closed_in_block_is_legal = begun_is_legal ▸ may_abort refl (inr refl) refl tt ▸ may_close (omega arith) refl refl refl refl refl
 
 -- ---- what isn't legal
 
@@ -148,8 +137,8 @@ commit_aborts l = elim l.0.rule.refused_or_idle [ inl was ↦ elim was [ inl ref
 
 -- a session with an open block is closed as it is
 close_in_block : IsLegal blocks (begun ++ Close 1 ∷ []) → ⊥
-close_in_block l = cc l.0.rule.none_open
+close_in_block l = some_none l.0.rule.none_open
 
 -- the open transaction of a closed session commits
 close_commits : IsLegal blocks (begun ++ Commit 1 ∷ []) → ⊥
-close_commits l = cc l.0.rule.in_step
+close_commits l = false_true l.0.rule.in_step

@@ -1,37 +1,37 @@
 -- A step that is cancelled.
 use Rattle.std.specs.Prelude.{[], ◌∷◌, refl}
-use Rattle.std.proofs.Common.{inl, inr}
+use Rattle.std.proofs.Common.{arith, inl, inr}
 use Rattle.al_modes.specs.declared.level.Level.TheVariants as levels
 use Rattle.al_history.specs.declared.entry.Cause.TheVariants as causes
 use Rattle.al_history.specs.declared.entry.Entry.TheVariants.{Give, Start, Refuse, Abort, Cancel, End}
 use Rattle.al_history.specs.Legal.{IsLegal}
 use Rattle.al_history.proofs.Vectors.{name_t, insert}
 use Rattle.al_history.proofs.VectorsCauses.{one_block}
-use Rattle.al_history.proofs.VectorsRules.{◌▸◌, may_give, may_start, may_refuse, may_abort, may_cancel, may_end}
+use Rattle.al_history.proofs.VectorsRules.{◌▸◌, may_give, may_start, may_refuse, may_abort, may_cancel, may_end, false_true}
 
 -- before its statement begins
 pub cancelled_is_legal : IsLegal (one_block insert) (Give 0 0 ∷ Cancel 0 ∷ Refuse 0 (causes.Cancelled 1) ∷ End 0 ∷ [])
 cancelled_is_legal =
     tt
-    ▸ may_give refl refl refl tt
-    ▸ may_cancel refl tt
-    ▸ may_refuse refl refl
-    ▸ may_end refl (inr refl) refl refl
+    ▸ may_give (omega arith) refl refl refl refl tt
+    ▸ may_cancel refl refl tt
+    ▸ may_refuse refl refl refl
+    ▸ may_end refl (inr refl) refl refl refl
 
 -- in its transaction, which is aborted; that its table isn't there is no matter
 pub cancelled_in_transaction_is_legal : IsLegal (one_block insert) (Give 0 0 ∷ Start 0 levels.ReadCommitted ∷ Cancel 0 ∷ Refuse 0 (causes.Cancelled 2) ∷ Abort 1 ∷ End 0 ∷ [])
 cancelled_in_transaction_is_legal =
     tt
-    ▸ may_give refl refl refl tt
-    ▸ may_start refl refl tt
-    ▸ may_cancel refl tt
-    ▸ may_refuse refl refl
-    ▸ may_abort refl (inl refl) refl
-    ▸ may_end refl (inr refl) refl refl
+    ▸ may_give (omega arith) refl refl refl refl tt
+    ▸ may_start refl refl refl tt
+    ▸ may_cancel refl refl tt
+    ▸ may_refuse refl refl refl
+    ▸ may_abort refl (inl refl) refl refl
+    ▸ may_end refl (inr refl) refl refl refl
 
 -- a session with no step in hand is cancelled
 cancelled_idle : IsLegal (one_block insert) (Cancel 0 ∷ []) → ⊥
-cancelled_idle l = cc l.0.rule.in_step
+cancelled_idle l = false_true l.0.rule.in_step
 
 -- a cancelled step goes on
 goes_on_after_cancel : IsLegal (one_block insert) (Give 0 0 ∷ Cancel 0 ∷ Start 0 levels.ReadCommitted ∷ []) → ⊥

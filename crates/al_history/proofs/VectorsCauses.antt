@@ -3,11 +3,12 @@ use Rattle.std.specs.Prelude.{◌≡◌, ℕ, zero, suc, List, [], ◌∷◌, �
 use Rattle.std.proofs.Common.{arith, inl, inr}
 use Rattle.al_values.specs.declared.scalar.Value.TheVariants as values
 use Rattle.al_modes.specs.declared.level.Level.TheVariants as levels
+use Rattle.al_modes.specs.declared.mode.Mode.TheVariants.{RowExclusive, AccessExclusive}
 use Rattle.al_history.specs.declared.entry.Tag.TheVariants as tags
 use Rattle.al_history.specs.declared.entry.Reply.TheVariants as replies
 use Rattle.al_history.specs.declared.entry.Cause.TheVariants as causes
 use Rattle.al_history.specs.declared.entry.Entry.{Entry}
-use Rattle.al_history.specs.declared.entry.Entry.TheVariants.{Give, Start, Look, Make, Add, Done, Refuse, Commit, Abort, End, Close}
+use Rattle.al_history.specs.declared.entry.Entry.TheVariants.{Give, Start, Lock, Look, Make, Add, Done, Refuse, Commit, Abort, End, Close}
 use Rattle.al_history.specs.declared.spec.Spec.{Spec}
 use Rattle.al_history.specs.declared.statement.Statement.{Statement}
 use Rattle.al_history.specs.declared.statement.Statement.TheVariants as statements
@@ -16,8 +17,8 @@ use Rattle.al_history.specs.Hand.{closed}
 use Rattle.al_history.specs.View.{latest, committed}
 use Rattle.al_history.specs.Legal.{IsLegal}
 use Rattle.al_history.specs.Whole.{IsWhole, failed_setup}
-use Rattle.al_history.proofs.Vectors.{name_t, name_a, name_b, int, column_a, insert, add_column, select, alone, steps, scripts_with, spec_with, ended_create, create_is_legal, none_below, idle_after_create, driven_create}
-use Rattle.al_history.proofs.VectorsRules.{◌▸◌, in_turn_six, may_give, may_start, may_look, may_act, may_make, may_add, may_be_done, may_refuse, may_commit, may_abort, may_end, may_close}
+use Rattle.al_history.proofs.Vectors.{name_t, name_a, name_b, int, column_a, insert, add_column, select, alone, steps, scripts_with, spec_with, ended_create, create_is_legal, none_below, idle, rest_after_create, driven_create}
+use Rattle.al_history.proofs.VectorsRules.{◌▸◌, in_turn_six, may_give, may_start, may_lock, may_look, may_act, may_make, may_add, may_be_done, may_refuse, may_commit, may_abort, may_end, may_close}
 
 -- the name u
 abbrev pub name_u : List ℕ
@@ -55,16 +56,16 @@ failed = ended_again ++ Close 0 ∷ Close 1 ∷ []
 pub again_is_legal : IsLegal again ended_again
 again_is_legal =
     create_is_legal (alone 0 create_again ∷ steps)
-    ▸ may_give refl refl refl tt
-    ▸ may_start refl refl tt
-    ▸ may_look refl refl refl refl tt
-    ▸ may_refuse refl tt
-    ▸ may_abort refl (inl refl) refl
-    ▸ may_end refl (inr refl) refl refl
+    ▸ may_give (omega arith) refl refl refl refl tt
+    ▸ may_start refl refl refl tt
+    ▸ may_look refl refl refl refl refl refl tt tt
+    ▸ may_refuse refl refl tt
+    ▸ may_abort refl (inl refl) refl refl
+    ▸ may_end refl (inr refl) refl refl refl
 
 -- then the sessions may be closed
 pub failed_is_legal : IsLegal again failed
-failed_is_legal = again_is_legal ▸ may_close (omega arith) refl refl refl tt ▸ may_close (omega arith) refl refl refl tt
+failed_is_legal = again_is_legal ▸ may_close (omega arith) refl refl refl refl tt ▸ may_close (omega arith) refl refl refl refl tt
 
 -- the setup block that failed is the second
 pub second_failed : failed_setup spec_again (reverse failed) ≡ Some 1
@@ -79,8 +80,9 @@ both_closed (suc (suc s)) le = absurd (omega arith)
 -- a run whose setup fails is whole without the steps of its permutation
 pub failed_is_whole : IsWhole spec_again again (2 ∷ 3 ∷ []) (reverse failed)
 failed_is_whole = record {
-  driven_by = refl;
-  in_turn = (tt, (tt, in_turn_six tt tt (refl, none_below _) (refl, none_below _) (refl, none_below _) idle_after_create (driven_create (alone 0 create_again ∷ steps))));
+  as_due = (refl, (refl, (refl, (refl, tt))));
+  all_done = refl;
+  in_turn = (tt, (tt, in_turn_six tt tt (refl, none_below _) (refl, none_below _) (refl, none_below _) (idle (reverse ended_create) rest_after_create) (driven_create (alone 0 create_again ∷ steps))));
   all_closed = both_closed;
 }
 
@@ -99,12 +101,12 @@ looked_twice = Give 0 0 ∷ Start 0 levels.ReadCommitted ∷ Look 1 ∷ []
 pub created_twice_is_legal : IsLegal (one_block create_twice) (looked_twice ++ Refuse 0 (causes.TwiceColumn name_b) ∷ Abort 1 ∷ End 0 ∷ [])
 created_twice_is_legal =
     tt
-    ▸ may_give refl refl refl tt
-    ▸ may_start refl refl tt
-    ▸ may_look refl refl refl refl tt
-    ▸ may_refuse refl tt
-    ▸ may_abort refl (inl refl) refl
-    ▸ may_end refl (inr refl) refl refl
+    ▸ may_give (omega arith) refl refl refl refl tt
+    ▸ may_start refl refl refl tt
+    ▸ may_look refl refl refl refl refl refl tt tt
+    ▸ may_refuse refl refl tt
+    ▸ may_abort refl (inl refl) refl refl
+    ▸ may_end refl (inr refl) refl refl refl
 
 -- ALTER TABLE t ADD COLUMN a integer, in session 1
 abbrev pub add_again : Statement
@@ -114,18 +116,19 @@ abbrev pub added_again : Scripts
 added_again = scripts_with (alone 1 add_again ∷ [])
 
 abbrev pub looked_added : List Entry
-looked_added = ended_create ++ Give 1 1 ∷ Start 1 levels.ReadCommitted ∷ Look 8 ∷ []
+looked_added = ended_create ++ Give 1 1 ∷ Start 1 levels.ReadCommitted ∷ Lock 8 3 AccessExclusive ∷ Look 8 ∷ []
 
 -- a column is added that is there already
 pub added_again_is_legal : IsLegal added_again (looked_added ++ Refuse 1 (causes.TwiceColumn name_a) ∷ Abort 8 ∷ End 1 ∷ [])
 added_again_is_legal =
     create_is_legal (alone 1 add_again ∷ [])
-    ▸ may_give refl refl refl tt
-    ▸ may_start refl refl tt
-    ▸ may_look refl refl refl refl tt
-    ▸ may_refuse refl tt
-    ▸ may_abort refl (inl refl) refl
-    ▸ may_end refl (inr refl) refl refl
+    ▸ may_give (omega arith) refl refl refl refl tt
+    ▸ may_start refl refl refl tt
+    ▸ may_lock refl refl refl refl refl refl refl tt tt
+    ▸ may_look refl refl refl refl refl refl tt refl
+    ▸ may_refuse refl refl tt
+    ▸ may_abort refl (inl refl) refl refl
+    ▸ may_end refl (inr refl) refl refl refl
 
 abbrev pub started_one : List Entry
 started_one = Give 0 0 ∷ Start 0 levels.ReadCommitted ∷ []
@@ -137,31 +140,31 @@ no_table = started_one ++ Refuse 0 (causes.NoTable name_t) ∷ Abort 1 ∷ End 0
 pub insert_nowhere_is_legal : IsLegal (one_block insert) no_table
 insert_nowhere_is_legal =
     tt
-    ▸ may_give refl refl refl tt
-    ▸ may_start refl refl tt
-    ▸ may_refuse refl tt
-    ▸ may_abort refl (inl refl) refl
-    ▸ may_end refl (inr refl) refl refl
+    ▸ may_give (omega arith) refl refl refl refl tt
+    ▸ may_start refl refl refl tt
+    ▸ may_refuse refl refl tt
+    ▸ may_abort refl (inl refl) refl refl
+    ▸ may_end refl (inr refl) refl refl refl
 
 -- a table is read that isn't there
 pub select_nowhere_is_legal : IsLegal (one_block select) no_table
 select_nowhere_is_legal =
     tt
-    ▸ may_give refl refl refl tt
-    ▸ may_start refl refl tt
-    ▸ may_refuse refl tt
-    ▸ may_abort refl (inl refl) refl
-    ▸ may_end refl (inr refl) refl refl
+    ▸ may_give (omega arith) refl refl refl refl tt
+    ▸ may_start refl refl refl tt
+    ▸ may_refuse refl refl tt
+    ▸ may_abort refl (inl refl) refl refl
+    ▸ may_end refl (inr refl) refl refl refl
 
 -- a table is altered that isn't there
 pub alter_nowhere_is_legal : IsLegal (one_block add_column) no_table
 alter_nowhere_is_legal =
     tt
-    ▸ may_give refl refl refl tt
-    ▸ may_start refl refl tt
-    ▸ may_refuse refl tt
-    ▸ may_abort refl (inl refl) refl
-    ▸ may_end refl (inr refl) refl refl
+    ▸ may_give (omega arith) refl refl refl refl tt
+    ▸ may_start refl refl refl tt
+    ▸ may_refuse refl refl tt
+    ▸ may_abort refl (inl refl) refl refl
+    ▸ may_end refl (inr refl) refl refl refl
 
 -- INSERT INTO t VALUES (1, 5)
 abbrev pub insert_two : Statement
@@ -170,16 +173,20 @@ insert_two = statements.Insert name_t (int 1 ∷ int 5 ∷ [])
 abbrev pub counted : Scripts
 counted = scripts_with (alone 0 insert_two ∷ [])
 
+abbrev pub looked_counted : List Entry
+looked_counted = ended_create ++ Give 0 1 ∷ Start 0 levels.ReadCommitted ∷ Lock 8 3 RowExclusive ∷ Look 8 ∷ []
+
 -- a row has more values than the table has columns
-pub count_is_legal : IsLegal counted (looked_again ++ Refuse 0 (causes.Count 1 2) ∷ Abort 8 ∷ End 0 ∷ [])
+pub count_is_legal : IsLegal counted (looked_counted ++ Refuse 0 (causes.Count 1 2) ∷ Abort 8 ∷ End 0 ∷ [])
 count_is_legal =
     create_is_legal (alone 0 insert_two ∷ [])
-    ▸ may_give refl refl refl tt
-    ▸ may_start refl refl tt
-    ▸ may_look refl refl refl refl tt
-    ▸ may_refuse refl tt
-    ▸ may_abort refl (inl refl) refl
-    ▸ may_end refl (inr refl) refl refl
+    ▸ may_give (omega arith) refl refl refl refl tt
+    ▸ may_start refl refl refl tt
+    ▸ may_lock refl refl refl refl refl refl refl tt tt
+    ▸ may_look refl refl refl refl refl refl tt tt
+    ▸ may_refuse refl refl tt
+    ▸ may_abort refl (inl refl) refl refl
+    ▸ may_end refl (inr refl) refl refl refl
 
 -- CREATE TABLE t (a integer, b integer); and a second statement, in one block
 abbrev pub create_two : Statement
@@ -195,7 +202,7 @@ abbrev pub done_first : List Entry
 done_first = made_two ++ Done 0 (replies.Tag tags.CreateTable 0) ∷ []
 
 abbrev pub looked_second : List Entry
-looked_second = done_first ++ Look 1 ∷ []
+looked_second = done_first ++ Lock 1 3 RowExclusive ∷ Look 1 ∷ []
 
 abbrev pub acted_second : List Entry
 acted_second = looked_second ++ Add 1 3 (int 1 ∷ values.Null ∷ []) ∷ []
@@ -207,29 +214,30 @@ done_second = acted_second ++ Done 0 (replies.Tag tags.Insert 1) ∷ []
 pub first_is_legal : (second : Statement) → IsLegal (pair second) done_first
 first_is_legal second =
     tt
-    ▸ may_give refl refl refl tt
-    ▸ may_start refl refl tt
-    ▸ may_look refl refl refl refl tt
-    ▸ may_make (may_act refl refl refl refl) (refl, refl) refl tt
-    ▸ may_be_done refl tt
+    ▸ may_give (omega arith) refl refl refl refl tt
+    ▸ may_start refl refl refl tt
+    ▸ may_look refl refl refl refl refl refl tt tt
+    ▸ may_make (may_act refl refl refl refl refl) refl (refl, refl) refl refl tt
+    ▸ may_be_done refl refl tt
 
 -- the statements of a block are one transaction: the second finds what the first made, and they are committed together.
 -- The column that has no value gets its default, Null.
 pub pair_is_legal : IsLegal (pair insert) (done_second ++ Commit 1 ∷ End 0 ∷ [])
 pair_is_legal =
     first_is_legal insert
-    ▸ may_look refl refl refl refl tt
-    ▸ may_add (may_act refl refl refl refl) (refl, refl) tt
-    ▸ may_be_done refl tt
-    ▸ may_commit refl refl refl refl refl
-    ▸ may_end refl (inl refl) refl refl
+    ▸ may_lock refl refl refl refl refl refl refl tt tt
+    ▸ may_look refl refl refl refl refl refl tt tt
+    ▸ may_add (may_act refl refl refl refl refl) (refl, refl) refl tt tt
+    ▸ may_be_done refl refl tt
+    ▸ may_commit refl refl refl refl refl refl
+    ▸ may_end refl (inl refl) refl refl refl
 
 -- before the Commit nobody else finds the table
 pub nothing_committed : committed (pair insert) (reverse done_second) ≡ []
 nothing_committed = refl
 
 -- it finds the row too, which has the number of its Add
-pub found_inside : latest (pair insert) (reverse done_second) 1 ≡ record { number = 3; name = name_t; columns = column_a ∷ record { name = name_b; default = values.Null } ∷ []; constraints = []; rows = record { number = 6; version = 6; values = int 1 ∷ values.Null ∷ [] } ∷ [] } ∷ []
+pub found_inside : latest (pair insert) (reverse done_second) 1 ≡ record { number = 3; name = name_t; columns = column_a ∷ record { name = name_b; default = values.Null } ∷ []; constraints = []; rows = record { number = 7; version = 7; values = int 1 ∷ values.Null ∷ [] } ∷ [] } ∷ []
 found_inside = refl
 
 -- INSERT INTO u VALUES (1)
@@ -243,9 +251,9 @@ undone = done_first ++ Refuse 0 (causes.NoTable name_u) ∷ Abort 1 ∷ End 0 �
 pub undone_is_legal : IsLegal (pair insert_u) undone
 undone_is_legal =
     first_is_legal insert_u
-    ▸ may_refuse refl tt
-    ▸ may_abort refl (inl refl) refl
-    ▸ may_end refl (inr refl) refl refl
+    ▸ may_refuse refl refl tt
+    ▸ may_abort refl (inl refl) refl refl
+    ▸ may_end refl (inr refl) refl refl refl
 
 -- so what the first did is undone with it
 pub undone_is_empty : committed (pair insert_u) (reverse undone) ≡ []

@@ -12,12 +12,13 @@ use Rattle.al_history.specs.declared.statement.Statement.{Statement}
 use Rattle.al_history.specs.declared.statement.Statement.TheVariants as statements
 use Rattle.al_history.specs.declared.statement.Scripts.{Scripts}
 use Rattle.al_history.specs.Legal.{IsLegal}
+use Rattle.al_history.proofs.VectorsRules.{none_some, some_none}
 use Rattle.al_history.proofs.Vectors.{name_t, name_a, name_b, int, column_a, insert, alone, scripts, scripts_with, looked_create, acted_create, done_create, ended_create}
-use Rattle.al_history.proofs.VectorsCauses.{name_u, one_block, again, looked_again, refused_again, create_twice, looked_twice, started_one, counted}
+use Rattle.al_history.proofs.VectorsCauses.{name_u, one_block, again, looked_again, refused_again, create_twice, looked_twice, started_one, counted, looked_counted}
 
 -- a statement is refused for a cause that isn't true
 refused_for_nothing : IsLegal scripts (looked_create ++ Refuse 0 (causes.TwiceTable name_t) ∷ []) → ⊥
-refused_for_nothing l = cc l.0.rule.first_true
+refused_for_nothing l = none_some l.0.rule.first_true
 
 -- the first byte of the name that a cause tells
 abbrev letter : Option Cause → ℕ
@@ -49,40 +50,40 @@ later_column : IsLegal (one_block create_twice) (looked_twice ++ Refuse 0 (cause
 later_column l = let told : ◌≡◌ {A = ℕ} 98 97 = ap letter l.0.rule.first_true in omega arith
 
 -- the columns and the values are counted the wrong way round
-counts_swapped : IsLegal counted (looked_again ++ Refuse 0 (causes.Count 2 1) ∷ []) → ⊥
+counts_swapped : IsLegal counted (looked_counted ++ Refuse 0 (causes.Count 2 1) ∷ []) → ⊥
 counts_swapped l = cc l.0.rule.first_true
 
 -- a statement is refused before its transaction begins
 refused_before_start : IsLegal (one_block insert) (Give 0 0 ∷ Refuse 0 (causes.NoTable name_t) ∷ []) → ⊥
-refused_before_start l = cc l.0.rule.first_true
+refused_before_start l = none_some l.0.rule.first_true
 
 -- a table in the way is told before the statement's Look
 refused_before_look : IsLegal again (ended_create ++ Give 0 1 ∷ Start 0 levels.ReadCommitted ∷ Refuse 0 (causes.TwiceTable name_t) ∷ []) → ⊥
-refused_before_look l = cc l.0.rule.first_true
+refused_before_look l = none_some l.0.rule.first_true
 
 -- another session is refused
 refused_elsewhere : IsLegal again (looked_again ++ Refuse 1 (causes.TwiceTable name_t) ∷ []) → ⊥
-refused_elsewhere l = cc l.0.rule.first_true
+refused_elsewhere l = none_some l.0.rule.first_true
 
 -- a statement is refused that has acted
 refused_after_act : IsLegal scripts (acted_create ++ Refuse 0 (causes.TwiceTable name_t) ∷ []) → ⊥
-refused_after_act l = cc l.0.rule.first_true
+refused_after_act l = none_some l.0.rule.first_true
 
 -- a statement looks whose table isn't there
 look_for_nothing : IsLegal (one_block insert) (started_one ++ Look 1 ∷ []) → ⊥
-look_for_nothing l = cc l.0.rule.not_refused
+look_for_nothing l = some_none l.0.rule.not_refused
 
 -- a table is made whose name is there
 made_again : IsLegal again (looked_again ++ Make 8 10 name_t (record { name = name_b; default = values.Null } ∷ []) ∷ []) → ⊥
-made_again l = cc l.0.rule.act.not_refused
+made_again l = some_none l.0.rule.act.not_refused
 
 -- a table is made with a column that stands twice
 made_twice : IsLegal (one_block create_twice) (looked_twice ++ Make 1 3 name_t (column_a ∷ []) ∷ []) → ⊥
-made_twice l = cc l.0.rule.act.not_refused
+made_twice l = some_none l.0.rule.act.not_refused
 
 -- a row is added that has too many values
-added_too_long : IsLegal counted (looked_again ++ Add 8 3 (int 1 ∷ int 5 ∷ []) ∷ []) → ⊥
-added_too_long l = cc l.0.rule.act.not_refused
+added_too_long : IsLegal counted (looked_counted ++ Add 8 3 (int 1 ∷ int 5 ∷ []) ∷ []) → ⊥
+added_too_long l = some_none l.0.rule.act.not_refused
 
 -- a statement is done that has to be refused
 done_anyway : IsLegal again (looked_again ++ Done 0 (replies.Tag tags.CreateTable 0) ∷ []) → ⊥

@@ -1,12 +1,13 @@
 -- What readers find: rows of others from their Commit on, defaults, changes of an own transaction, older readers.
 use Rattle.std.specs.Prelude.{◌≡◌, List, [], ◌∷◌, ◌++◌, None, reverse, refl}
-use Rattle.std.proofs.Common.{inl, inr}
+use Rattle.std.proofs.Common.{arith, inl, inr}
 use Rattle.al_modes.specs.declared.level.Level.TheVariants as levels
+use Rattle.al_modes.specs.declared.mode.Mode.TheVariants.{AccessShare, RowExclusive, AccessExclusive}
 use Rattle.al_history.specs.declared.entry.Tag.TheVariants as tags
 use Rattle.al_history.specs.declared.entry.Reply.TheVariants as replies
 use Rattle.al_history.specs.declared.entry.Cause.TheVariants as causes
 use Rattle.al_history.specs.declared.entry.Entry.{Entry}
-use Rattle.al_history.specs.declared.entry.Entry.TheVariants.{Give, Start, Look, Add, Read, Alter, Done, Refuse, Commit, Abort, End}
+use Rattle.al_history.specs.declared.entry.Entry.TheVariants.{Give, Start, Lock, Look, Add, Read, Alter, Done, Refuse, Commit, Abort, End}
 use Rattle.al_history.specs.declared.statement.Statement.{Statement}
 use Rattle.al_history.specs.declared.statement.Statement.TheVariants as statements
 use Rattle.al_history.specs.declared.statement.ScriptBlock.{ScriptBlock}
@@ -17,7 +18,7 @@ use Rattle.al_history.specs.View.{view, latest, committed}
 use Rattle.al_history.specs.Legal.{IsLegal}
 use Rattle.al_history.proofs.Vectors.{name_t, name_a, name_b, int, column_a, column_b, insert, add_column, select, alone, scripts_with, scripts, done_create, ended_create, ended_insert, journal, create_is_legal}
 use Rattle.al_history.proofs.VectorsCauses.{failed}
-use Rattle.al_history.proofs.VectorsRules.{◌▸◌, may_give, may_start, may_look, may_act, may_add, may_read, may_alter, may_be_done, may_refuse, may_commit, may_abort, may_end}
+use Rattle.al_history.proofs.VectorsRules.{◌▸◌, may_give, may_start, may_lock, may_look, may_act, may_add, may_read, may_alter, may_be_done, may_refuse, may_commit, may_abort, may_end}
 
 -- the table t with a column a, and with the column b too
 abbrev narrow : List VersionedRow → Table
@@ -43,7 +44,7 @@ blind_reader : view scripts (reverse journal) [] None ≡ wide [] ∷ []
 blind_reader = refl
 
 -- a reader that has seen the row, but not the new column, finds the row with the new column's default
-older_reader : view scripts (reverse journal) (reverse ended_insert) None ≡ wide (record { number = 10; version = 10; values = int 1 ∷ int 5 ∷ [] } ∷ []) ∷ []
+older_reader : view scripts (reverse journal) (reverse ended_insert) None ≡ wide (record { number = 11; version = 11; values = int 1 ∷ int 5 ∷ [] } ∷ []) ∷ []
 older_reader = refl
 
 -- Session 0 adds a row, and session 1 reads.
@@ -55,56 +56,60 @@ read = scripts_with reading
 
 -- session 1 looks before session 0 commits,
 abbrev looked_early : List Entry
-looked_early = ended_create ++ Give 0 1 ∷ Start 0 levels.ReadCommitted ∷ Look 8 ∷ Add 8 3 (int 1 ∷ []) ∷ Give 1 2 ∷ Start 1 levels.ReadCommitted ∷ Look 12 ∷ Done 0 (replies.Tag tags.Insert 1) ∷ Commit 8 ∷ End 0 ∷ []
+looked_early = ended_create ++ Give 0 1 ∷ Start 0 levels.ReadCommitted ∷ Lock 8 3 RowExclusive ∷ Look 8 ∷ Add 8 3 (int 1 ∷ []) ∷ Give 1 2 ∷ Start 1 levels.ReadCommitted ∷ Lock 13 3 AccessShare ∷ Look 13 ∷ Done 0 (replies.Tag tags.Insert 1) ∷ Commit 8 ∷ End 0 ∷ []
 
 -- or after it
 abbrev looked_late : List Entry
-looked_late = ended_create ++ Give 0 1 ∷ Start 0 levels.ReadCommitted ∷ Look 8 ∷ Add 8 3 (int 1 ∷ []) ∷ Give 1 2 ∷ Start 1 levels.ReadCommitted ∷ Done 0 (replies.Tag tags.Insert 1) ∷ Commit 8 ∷ End 0 ∷ Look 12 ∷ []
+looked_late = ended_create ++ Give 0 1 ∷ Start 0 levels.ReadCommitted ∷ Lock 8 3 RowExclusive ∷ Look 8 ∷ Add 8 3 (int 1 ∷ []) ∷ Give 1 2 ∷ Start 1 levels.ReadCommitted ∷ Done 0 (replies.Tag tags.Insert 1) ∷ Commit 8 ∷ End 0 ∷ Lock 13 3 AccessShare ∷ Look 13 ∷ []
 
 -- both may come,
 looked_early_is_legal : IsLegal read looked_early
 looked_early_is_legal =
     create_is_legal reading
-    ▸ may_give refl refl refl tt
-    ▸ may_start refl refl tt
-    ▸ may_look refl refl refl refl tt
-    ▸ may_add (may_act refl refl refl refl) (refl, refl) tt
-    ▸ may_give refl refl refl tt
-    ▸ may_start refl refl tt
-    ▸ may_look refl refl refl refl tt
-    ▸ may_be_done refl tt
-    ▸ may_commit refl refl refl refl refl
-    ▸ may_end refl (inl refl) refl refl
+    ▸ may_give (omega arith) refl refl refl refl tt
+    ▸ may_start refl refl refl tt
+    ▸ may_lock refl refl refl refl refl refl refl tt tt
+    ▸ may_look refl refl refl refl refl refl tt tt
+    ▸ may_add (may_act refl refl refl refl refl) (refl, refl) refl tt tt
+    ▸ may_give (omega arith) refl refl refl refl tt
+    ▸ may_start refl refl refl tt
+    ▸ may_lock refl refl refl refl refl refl refl tt tt
+    ▸ may_look refl refl refl refl refl refl tt tt
+    ▸ may_be_done refl refl tt
+    ▸ may_commit refl refl refl refl refl refl
+    ▸ may_end refl (inl refl) refl refl refl
 
 -- since sessions may take turns inside their steps
 looked_late_is_legal : IsLegal read looked_late
 looked_late_is_legal =
     create_is_legal reading
-    ▸ may_give refl refl refl tt
-    ▸ may_start refl refl tt
-    ▸ may_look refl refl refl refl tt
-    ▸ may_add (may_act refl refl refl refl) (refl, refl) tt
-    ▸ may_give refl refl refl tt
-    ▸ may_start refl refl tt
-    ▸ may_be_done refl tt
-    ▸ may_commit refl refl refl refl refl
-    ▸ may_end refl (inl refl) refl refl
-    ▸ may_look refl refl refl refl tt
+    ▸ may_give (omega arith) refl refl refl refl tt
+    ▸ may_start refl refl refl tt
+    ▸ may_lock refl refl refl refl refl refl refl tt tt
+    ▸ may_look refl refl refl refl refl refl tt tt
+    ▸ may_add (may_act refl refl refl refl refl) (refl, refl) refl tt tt
+    ▸ may_give (omega arith) refl refl refl refl tt
+    ▸ may_start refl refl refl tt
+    ▸ may_be_done refl refl tt
+    ▸ may_commit refl refl refl refl refl refl
+    ▸ may_end refl (inl refl) refl refl refl
+    ▸ may_lock refl refl refl refl refl refl refl tt tt
+    ▸ may_look refl refl refl refl refl refl tt tt
 
 -- a SELECT that looked before the Commit of a row doesn't read it,
-early_reads_none : IsLegal read (looked_early ++ Read 12 (name_a ∷ []) [] ∷ [])
-early_reads_none = looked_early_is_legal ▸ may_read (may_act refl refl refl refl) (refl, refl) tt
+early_reads_none : IsLegal read (looked_early ++ Read 13 (name_a ∷ []) [] ∷ [])
+early_reads_none = looked_early_is_legal ▸ may_read (may_act refl refl refl refl refl) (refl, refl) refl tt tt
 
 -- (it can't read it)
-early_reads_row : IsLegal read (looked_early ++ Read 12 (name_a ∷ []) ((int 1 ∷ []) ∷ []) ∷ []) → ⊥
+early_reads_row : IsLegal read (looked_early ++ Read 13 (name_a ∷ []) ((int 1 ∷ []) ∷ []) ∷ []) → ⊥
 early_reads_row l = cc l.0.rule.selects.1
 
 -- and one that looked after it does, though its transaction began before
-late_reads_row : IsLegal read (looked_late ++ Read 12 (name_a ∷ []) ((int 1 ∷ []) ∷ []) ∷ [])
-late_reads_row = looked_late_is_legal ▸ may_read (may_act refl refl refl refl) (refl, refl) tt
+late_reads_row : IsLegal read (looked_late ++ Read 13 (name_a ∷ []) ((int 1 ∷ []) ∷ []) ∷ [])
+late_reads_row = looked_late_is_legal ▸ may_read (may_act refl refl refl refl refl) (refl, refl) refl tt tt
 
 -- (it can't miss it)
-late_reads_none : IsLegal read (looked_late ++ Read 12 (name_a ∷ []) [] ∷ []) → ⊥
+late_reads_none : IsLegal read (looked_late ++ Read 13 (name_a ∷ []) [] ∷ []) → ⊥
 late_reads_none l = cc l.0.rule.selects.1
 
 -- A block of four statements after the CREATE TABLE: the column is added between two rows, and all is read.
@@ -117,36 +122,39 @@ four = record { session = 0; script = insert ∷ add_column ∷ insert_more ∷ 
 
 abbrev looked_four : List Entry
 looked_four = ended_create ++ Give 0 1 ∷ Start 0 levels.ReadCommitted
-    ∷ Look 8 ∷ Add 8 3 (int 1 ∷ []) ∷ Done 0 (replies.Tag tags.Insert 1)
-    ∷ Look 8 ∷ Alter 8 3 1 [] ∷ Done 0 (replies.Tag tags.AlterTable 0)
+    ∷ Lock 8 3 RowExclusive ∷ Look 8 ∷ Add 8 3 (int 1 ∷ []) ∷ Done 0 (replies.Tag tags.Insert 1)
+    ∷ Lock 8 3 AccessExclusive ∷ Look 8 ∷ Alter 8 3 1 [] ∷ Done 0 (replies.Tag tags.AlterTable 0)
     ∷ Look 8 ∷ Add 8 3 (int 2 ∷ int 5 ∷ []) ∷ Done 0 (replies.Tag tags.Insert 1)
-    ∷ Look 8 ∷ []
+    ∷ Lock 8 3 AccessShare ∷ Look 8 ∷ []
 
--- each statement finds what those before it did
+-- each statement finds what those before it did; the second row needs no lock that isn't held already
 looked_four_is_legal : IsLegal (scripts_with four) looked_four
 looked_four_is_legal =
     create_is_legal four
-    ▸ may_give refl refl refl tt
-    ▸ may_start refl refl tt
-    ▸ may_look refl refl refl refl tt
-    ▸ may_add (may_act refl refl refl refl) (refl, refl) tt
-    ▸ may_be_done refl tt
-    ▸ may_look refl refl refl refl tt
-    ▸ may_alter (may_act refl refl refl refl) (refl, λ c there. absurd c.demand) refl tt
-    ▸ may_be_done refl tt
-    ▸ may_look refl refl refl refl tt
-    ▸ may_add (may_act refl refl refl refl) (refl, refl) tt
-    ▸ may_be_done refl tt
-    ▸ may_look refl refl refl refl tt
+    ▸ may_give (omega arith) refl refl refl refl tt
+    ▸ may_start refl refl refl tt
+    ▸ may_lock refl refl refl refl refl refl refl tt tt
+    ▸ may_look refl refl refl refl refl refl tt tt
+    ▸ may_add (may_act refl refl refl refl refl) (refl, refl) refl tt tt
+    ▸ may_be_done refl refl tt
+    ▸ may_lock refl refl refl refl refl refl refl tt tt
+    ▸ may_look refl refl refl refl refl refl tt refl
+    ▸ may_alter (may_act refl refl refl refl refl) (refl, λ c there. absurd c.demand) refl refl tt refl
+    ▸ may_be_done refl refl tt
+    ▸ may_look refl refl refl refl refl refl tt refl
+    ▸ may_add (may_act refl refl refl refl refl) (refl, refl) refl tt refl
+    ▸ may_be_done refl refl tt
+    ▸ may_lock refl refl refl refl refl refl refl tt refl
+    ▸ may_look refl refl refl refl refl refl tt refl
 
 -- the transaction reads both rows in the order in which they came, each with the default of the new column
-four_is_legal : IsLegal (scripts_with four) (looked_four ++ Read 8 (name_a ∷ name_b ∷ []) ((int 1 ∷ int 5 ∷ []) ∷ (int 2 ∷ int 5 ∷ []) ∷ []) ∷ Done 0 (replies.Rows 19) ∷ Commit 8 ∷ End 0 ∷ [])
+four_is_legal : IsLegal (scripts_with four) (looked_four ++ Read 8 (name_a ∷ name_b ∷ []) ((int 1 ∷ int 5 ∷ []) ∷ (int 2 ∷ int 5 ∷ []) ∷ []) ∷ Done 0 (replies.Rows 22) ∷ Commit 8 ∷ End 0 ∷ [])
 four_is_legal =
     looked_four_is_legal
-    ▸ may_read (may_act refl refl refl refl) (refl, refl) tt
-    ▸ may_be_done refl tt
-    ▸ may_commit refl refl refl refl refl
-    ▸ may_end refl (inl refl) refl refl
+    ▸ may_read (may_act refl refl refl refl refl) (refl, refl) refl tt refl
+    ▸ may_be_done refl refl tt
+    ▸ may_commit refl refl refl refl refl refl
+    ▸ may_end refl (inl refl) refl refl refl
 
 -- not in another order
 rows_swapped : IsLegal (scripts_with four) (looked_four ++ Read 8 (name_a ∷ name_b ∷ []) ((int 2 ∷ int 5 ∷ []) ∷ (int 1 ∷ int 5 ∷ []) ∷ []) ∷ []) → ⊥
@@ -157,7 +165,7 @@ four_hidden : committed (scripts_with four) (reverse looked_four) ≡ narrow [] 
 four_hidden = refl
 
 -- the second row has the number of its own Add
-four_found : latest (scripts_with four) (reverse looked_four) 8 ≡ wide (record { number = 10; version = 10; values = int 1 ∷ int 5 ∷ [] } ∷ record { number = 16; version = 16; values = int 2 ∷ int 5 ∷ [] } ∷ []) ∷ []
+four_found : latest (scripts_with four) (reverse looked_four) 8 ≡ wide (record { number = 11; version = 11; values = int 1 ∷ int 5 ∷ [] } ∷ record { number = 18; version = 18; values = int 2 ∷ int 5 ∷ [] } ∷ []) ∷ []
 four_found = refl
 
 -- A block adds the column twice.
@@ -165,21 +173,22 @@ abbrev twice : List ScriptBlock
 twice = record { session = 0; script = add_column ∷ add_column ∷ [] } ∷ []
 
 abbrev twice_added : List Entry
-twice_added = ended_create ++ Give 0 1 ∷ Start 0 levels.ReadCommitted ∷ Look 8 ∷ Alter 8 3 0 [] ∷ Done 0 (replies.Tag tags.AlterTable 0) ∷ Look 8 ∷ Refuse 0 (causes.TwiceColumn name_b) ∷ Abort 8 ∷ End 0 ∷ []
+twice_added = ended_create ++ Give 0 1 ∷ Start 0 levels.ReadCommitted ∷ Lock 8 3 AccessExclusive ∷ Look 8 ∷ Alter 8 3 0 [] ∷ Done 0 (replies.Tag tags.AlterTable 0) ∷ Look 8 ∷ Refuse 0 (causes.TwiceColumn name_b) ∷ Abort 8 ∷ End 0 ∷ []
 
 -- the second is refused,
 twice_added_is_legal : IsLegal (scripts_with twice) twice_added
 twice_added_is_legal =
     create_is_legal twice
-    ▸ may_give refl refl refl tt
-    ▸ may_start refl refl tt
-    ▸ may_look refl refl refl refl tt
-    ▸ may_alter (may_act refl refl refl refl) (refl, λ c there. absurd c.demand) refl tt
-    ▸ may_be_done refl tt
-    ▸ may_look refl refl refl refl tt
-    ▸ may_refuse refl tt
-    ▸ may_abort refl (inl refl) refl
-    ▸ may_end refl (inr refl) refl refl
+    ▸ may_give (omega arith) refl refl refl refl tt
+    ▸ may_start refl refl refl tt
+    ▸ may_lock refl refl refl refl refl refl refl tt tt
+    ▸ may_look refl refl refl refl refl refl tt refl
+    ▸ may_alter (may_act refl refl refl refl refl) (refl, λ c there. absurd c.demand) refl refl tt refl
+    ▸ may_be_done refl refl tt
+    ▸ may_look refl refl refl refl refl refl tt refl
+    ▸ may_refuse refl refl tt
+    ▸ may_abort refl (inl refl) refl refl
+    ▸ may_end refl (inr refl) refl refl refl
 
 -- and the first is undone with it
 first_undone : committed (scripts_with twice) (reverse twice_added) ≡ narrow [] ∷ []
@@ -187,4 +196,4 @@ first_undone = refl
 
 -- a block without statements ends at once, without a transaction
 empty_block : IsLegal (record { sessions = 1; blocks = record { session = 0; script = [] } ∷ [] }) (Give 0 0 ∷ End 0 ∷ [])
-empty_block = tt ▸ may_give refl refl refl tt ▸ may_end refl (inl refl) refl tt
+empty_block = tt ▸ may_give (omega arith) refl refl refl refl tt ▸ may_end refl (inl refl) refl refl tt

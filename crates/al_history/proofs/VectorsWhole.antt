@@ -2,11 +2,12 @@
 use Rattle.std.specs.Prelude.{zero, suc, ◌≤◌, true, ℕ, List, [], ◌∷◌, ◌++◌, ◌<◌, ◌≡◌, reverse, codes, refl}
 use Rattle.std.proofs.Common.{arith, inl, inr}
 use Rattle.al_modes.specs.declared.level.Level.TheVariants as levels
+use Rattle.al_modes.specs.declared.mode.Mode.TheVariants.{AccessShare, AccessExclusive}
 use Rattle.al_history.specs.declared.entry.Tag.TheVariants as tags
 use Rattle.al_history.specs.declared.entry.Reply.TheVariants as replies
 use Rattle.al_history.specs.declared.entry.Cause.TheVariants as causes
 use Rattle.al_history.specs.declared.entry.Entry.{Entry}
-use Rattle.al_history.specs.declared.entry.Entry.TheVariants.{Give, Start, Look, Read, Alter, Done, Refuse, Abort, Commit, End, Close}
+use Rattle.al_history.specs.declared.entry.Entry.TheVariants.{Give, Start, Lock, Look, Read, Alter, Done, Refuse, Abort, Commit, End, Close}
 use Rattle.al_history.specs.declared.spec.Spec.{Spec}
 use Rattle.al_history.specs.declared.statement.ScriptBlock.{ScriptBlock}
 use Rattle.al_history.specs.declared.run.Run.{Run}
@@ -14,10 +15,10 @@ use Rattle.al_history.specs.declared.run.Setup.{Setup}
 use Rattle.al_history.specs.declared.run.Setup.TheVariants as setups
 use Rattle.al_history.specs.Hand.{closed}
 use Rattle.al_history.specs.Legal.{IsLegal}
-use Rattle.al_history.specs.Whole.{IsIdle, Driven, IsWhole, IsRun, AreRuns}
-use Rattle.al_history.proofs.Vectors.{name_a, int, alone, select, scripts, filled_with, spec, spec_with, given_create, ended_insert, ended_alter, ended_select, journal, insert_is_legal, alter_is_legal, select_is_legal, journal_is_legal, journal_is_whole, at_rest, zero_below, idle_after_insert, driven_insert}
+use Rattle.al_history.specs.Whole.{Driven, IsWhole, IsRun, AreRuns}
+use Rattle.al_history.proofs.Vectors.{name_a, int, alone, select, scripts, filled_with, spec, spec_with, given_create, ended_insert, ended_alter, ended_select, journal, insert_is_legal, alter_is_legal, select_is_legal, journal_is_legal, journal_is_whole, IsAtRest, at_rest, zero_below, idle, rest_after_insert, driven_insert}
 use Rattle.al_history.proofs.VectorsCauses.{add_again, again, spec_again, ended_again, failed, again_is_legal, failed_is_legal, failed_is_whole}
-use Rattle.al_history.proofs.VectorsRules.{◌▸◌, in_turn_six, in_turn_seven, may_give, may_start, may_look, may_act, may_read, may_alter, may_be_done, may_refuse, may_commit, may_abort, may_end, may_close}
+use Rattle.al_history.proofs.VectorsRules.{◌▸◌, in_turn_seven, in_turn_eight, may_give, may_start, may_lock, may_look, may_act, may_read, may_alter, may_be_done, may_refuse, may_commit, may_abort, may_end, may_close, false_true}
 use Rattle.al_history.proofs.Views.{hold_always}
 
 -- a run of this number and this outcome of its setup, with this journal
@@ -66,11 +67,11 @@ unclosed = ended_select ++ Close 1 ∷ []
 
 -- that is legal,
 unclosed_is_legal : IsLegal scripts unclosed
-unclosed_is_legal = select_is_legal ▸ may_close (omega arith) refl refl refl tt
+unclosed_is_legal = select_is_legal ▸ may_close (omega arith) refl refl refl refl tt
 
 -- but not whole: the control session is open
 unclosed_is_no_run : IsWhole spec scripts (2 ∷ 3 ∷ []) (reverse unclosed) → ⊥
-unclosed_is_no_run w = cc (w.all_closed 0 (omega arith))
+unclosed_is_no_run w = false_true (w.all_closed 0 (omega arith))
 
 -- The second step of the permutation is left out:
 abbrev step_missing : List Entry
@@ -78,15 +79,15 @@ step_missing = ended_alter ++ Close 1 ∷ Close 0 ∷ []
 
 -- that is legal,
 step_missing_is_legal : IsLegal scripts step_missing
-step_missing_is_legal = alter_is_legal ▸ may_close (omega arith) refl refl refl tt ▸ may_close (omega arith) refl refl refl tt
+step_missing_is_legal = alter_is_legal ▸ may_close (omega arith) refl refl refl refl tt ▸ may_close (omega arith) refl refl refl refl tt
 
 -- but not whole
 step_missing_is_no_run : IsWhole spec scripts (2 ∷ 3 ∷ []) (reverse step_missing) → ⊥
-step_missing_is_no_run w = cc w.driven_by
+step_missing_is_no_run w = cc w.as_due.1.0
 
 -- the whole journal isn't that of the steps in the other order
 order_swapped : IsWhole spec scripts (3 ∷ 2 ∷ []) (reverse journal) → ⊥
-order_swapped w = cc w.driven_by
+order_swapped w = cc w.as_due.1.1.0
 
 -- The control session is closed first:
 abbrev control_first : List Entry
@@ -94,11 +95,11 @@ control_first = ended_select ++ Close 0 ∷ Close 1 ∷ []
 
 -- that is legal,
 control_first_is_legal : IsLegal scripts control_first
-control_first_is_legal = select_is_legal ▸ may_close (omega arith) refl refl refl tt ▸ may_close (omega arith) refl refl refl tt
+control_first_is_legal = select_is_legal ▸ may_close (omega arith) refl refl refl refl tt ▸ may_close (omega arith) refl refl refl refl tt
 
 -- but not whole
 control_first_is_no_run : IsWhole spec scripts (2 ∷ 3 ∷ []) (reverse control_first) → ⊥
-control_first_is_no_run w = cc w.driven_by
+control_first_is_no_run w = cc w.as_due.1.0
 
 -- After a failed setup the control session is closed last:
 abbrev control_last : List Entry
@@ -106,33 +107,34 @@ control_last = ended_again ++ Close 1 ∷ Close 0 ∷ []
 
 -- that is legal,
 control_last_is_legal : IsLegal again control_last
-control_last_is_legal = again_is_legal ▸ may_close (omega arith) refl refl refl tt ▸ may_close (omega arith) refl refl refl tt
+control_last_is_legal = again_is_legal ▸ may_close (omega arith) refl refl refl refl tt ▸ may_close (omega arith) refl refl refl refl tt
 
 -- but not whole
 control_last_is_no_run : IsWhole spec_again again (2 ∷ 3 ∷ []) (reverse control_last) → ⊥
-control_last_is_no_run w = cc w.driven_by
+control_last_is_no_run w = cc w.as_due.1.0
 
 -- A step is given after a failed setup:
 abbrev gone_on : List Entry
-gone_on = ended_again ++ Give 1 2 ∷ Start 1 levels.ReadCommitted ∷ Look 14 ∷ Alter 14 3 0 [] ∷ Done 1 (replies.Tag tags.AlterTable 0) ∷ Commit 14 ∷ End 1 ∷ Close 0 ∷ Close 1 ∷ []
+gone_on = ended_again ++ Give 1 2 ∷ Start 1 levels.ReadCommitted ∷ Lock 14 3 AccessExclusive ∷ Look 14 ∷ Alter 14 3 0 [] ∷ Done 1 (replies.Tag tags.AlterTable 0) ∷ Commit 14 ∷ End 1 ∷ Close 0 ∷ Close 1 ∷ []
 
 -- that is legal,
 gone_on_is_legal : IsLegal again gone_on
 gone_on_is_legal =
     again_is_legal
-    ▸ may_give refl refl refl tt
-    ▸ may_start refl refl tt
-    ▸ may_look refl refl refl refl tt
-    ▸ may_alter (may_act refl refl refl refl) (refl, λ c there. absurd c.demand) refl tt
-    ▸ may_be_done refl tt
-    ▸ may_commit refl refl refl refl refl
-    ▸ may_end refl (inl refl) refl refl
-    ▸ may_close (omega arith) refl refl refl tt
-    ▸ may_close (omega arith) refl refl refl tt
+    ▸ may_give (omega arith) refl refl refl refl tt
+    ▸ may_start refl refl refl tt
+    ▸ may_lock refl refl refl refl refl refl refl tt tt
+    ▸ may_look refl refl refl refl refl refl tt refl
+    ▸ may_alter (may_act refl refl refl refl refl) (refl, λ c there. absurd c.demand) refl refl tt refl
+    ▸ may_be_done refl refl tt
+    ▸ may_commit refl refl refl refl refl refl
+    ▸ may_end refl (inl refl) refl refl refl
+    ▸ may_close (omega arith) refl refl refl refl tt
+    ▸ may_close (omega arith) refl refl refl refl tt
 
 -- but not whole
 gone_on_is_no_run : IsWhole spec_again again (2 ∷ 3 ∷ []) (reverse gone_on) → ⊥
-gone_on_is_no_run w = cc w.driven_by
+gone_on_is_no_run w = cc w.as_due.1.1.0
 
 -- A block is given while another session has one in hand:
 abbrev both_given : List Entry
@@ -140,7 +142,7 @@ both_given = given_create ++ Give 1 2 ∷ []
 
 -- that is legal,
 both_given_is_legal : IsLegal scripts both_given
-both_given_is_legal = tt ▸ may_give refl refl refl tt ▸ may_give refl refl refl tt
+both_given_is_legal = tt ▸ may_give (omega arith) refl refl refl refl tt ▸ may_give (omega arith) refl refl refl refl tt
 
 -- but the driver waits
 both_given_is_no_turn : Driven scripts (reverse both_given) → ⊥
@@ -152,7 +154,7 @@ later_first = both_given ++ Start 1 levels.ReadCommitted ∷ []
 
 -- that is legal,
 later_first_is_legal : IsLegal scripts later_first
-later_first_is_legal = both_given_is_legal ▸ may_start refl refl tt
+later_first_is_legal = both_given_is_legal ▸ may_start refl refl refl tt
 
 -- but not its turn
 later_first_is_no_turn : Driven scripts (reverse later_first) → ⊥
@@ -166,10 +168,10 @@ abbrev spec_refused : Spec
 spec_refused = spec_with (codes "INSERT INTO t VALUES (1)") (codes "ALTER TABLE t ADD COLUMN a integer;")
 
 abbrev step_refused : List Entry
-step_refused = ended_insert ++ Give 1 2 ∷ Start 1 levels.ReadCommitted ∷ Look 15 ∷ Refuse 1 (causes.TwiceColumn name_a) ∷ Abort 15 ∷ End 1 ∷ []
+step_refused = ended_insert ++ Give 1 2 ∷ Start 1 levels.ReadCommitted ∷ Lock 16 3 AccessExclusive ∷ Look 16 ∷ Refuse 1 (causes.TwiceColumn name_a) ∷ Abort 16 ∷ End 1 ∷ []
 
 abbrev refused_next : List Entry
-refused_next = Give 1 3 ∷ Start 1 levels.ReadCommitted ∷ Look 21 ∷ Read 21 (name_a ∷ []) ((int 1 ∷ []) ∷ []) ∷ Done 1 (replies.Rows 23) ∷ Commit 21 ∷ End 1 ∷ []
+refused_next = Give 1 3 ∷ Start 1 levels.ReadCommitted ∷ Lock 23 3 AccessShare ∷ Look 23 ∷ Read 23 (name_a ∷ []) ((int 1 ∷ []) ∷ []) ∷ Done 1 (replies.Rows 26) ∷ Commit 23 ∷ End 1 ∷ []
 
 abbrev refused_journal : List Entry
 refused_journal = step_refused ++ refused_next ++ Close 1 ∷ Close 0 ∷ []
@@ -178,21 +180,23 @@ refused_journal = step_refused ++ refused_next ++ Close 1 ∷ Close 0 ∷ []
 refused_journal_is_legal : IsLegal (filled_with refused_steps) refused_journal
 refused_journal_is_legal =
     insert_is_legal refused_steps
-    ▸ may_give refl refl refl tt
-    ▸ may_start refl refl tt
-    ▸ may_look refl refl refl refl tt
-    ▸ may_refuse refl tt
-    ▸ may_abort refl (inl refl) refl
-    ▸ may_end refl (inr refl) refl refl
-    ▸ may_give refl refl refl tt
-    ▸ may_start refl refl tt
-    ▸ may_look refl refl refl refl tt
-    ▸ may_read (may_act refl refl refl refl) (refl, refl) tt
-    ▸ may_be_done refl tt
-    ▸ may_commit refl refl refl refl refl
-    ▸ may_end refl (inl refl) refl refl
-    ▸ may_close (omega arith) refl refl refl tt
-    ▸ may_close (omega arith) refl refl refl tt
+    ▸ may_give (omega arith) refl refl refl refl tt
+    ▸ may_start refl refl refl tt
+    ▸ may_lock refl refl refl refl refl refl refl tt tt
+    ▸ may_look refl refl refl refl refl refl tt refl
+    ▸ may_refuse refl refl tt
+    ▸ may_abort refl (inl refl) refl refl
+    ▸ may_end refl (inr refl) refl refl refl
+    ▸ may_give (omega arith) refl refl refl refl tt
+    ▸ may_start refl refl refl tt
+    ▸ may_lock refl refl refl refl refl refl refl tt tt
+    ▸ may_look refl refl refl refl refl refl tt tt
+    ▸ may_read (may_act refl refl refl refl refl) (refl, refl) refl tt tt
+    ▸ may_be_done refl refl tt
+    ▸ may_commit refl refl refl refl refl refl
+    ▸ may_end refl (inl refl) refl refl refl
+    ▸ may_close (omega arith) refl refl refl refl tt
+    ▸ may_close (omega arith) refl refl refl refl tt
 
 -- both sessions are closed at its end
 refused_both_closed : (s : ℕ) → s ≤ 1 → closed (reverse refused_journal) s ≡ true
@@ -200,17 +204,17 @@ refused_both_closed zero le = refl
 refused_both_closed (suc zero) le = refl
 refused_both_closed (suc (suc s)) le = absurd (omega arith)
 
--- no session can go on after the step that was refused
-idle_after_refusal : IsIdle (reverse step_refused)
-idle_after_refusal r = at_rest (reverse ended_insert) 1 2 idle_after_insert r
+-- no session has a step in hand after the step that was refused
+rest_after_refusal : IsAtRest (reverse step_refused)
+rest_after_refusal r = at_rest (reverse ended_insert) 1 2 rest_after_insert r
 
 -- each entry of the step that is refused is of session 1
 driven_step_refused : Driven (filled_with refused_steps) (reverse step_refused)
-driven_step_refused = in_turn_six tt tt (refl, zero_below _ refl) (refl, zero_below _ refl) (refl, zero_below _ refl) idle_after_insert (driven_insert refused_steps)
+driven_step_refused = in_turn_seven tt tt (refl, zero_below _ refl) (refl, zero_below _ refl) (refl, zero_below _ refl) (refl, zero_below _ refl) (idle (reverse ended_insert) rest_after_insert) (driven_insert refused_steps)
 
 -- so is each of the second
 driven_refused : Driven (filled_with refused_steps) (reverse (step_refused ++ refused_next))
-driven_refused = in_turn_seven tt tt (refl, zero_below _ refl) (refl, zero_below _ refl) (refl, zero_below _ refl) (refl, zero_below _ refl) idle_after_refusal driven_step_refused
+driven_refused = in_turn_eight tt tt (refl, zero_below _ refl) (refl, zero_below _ refl) (refl, zero_below _ refl) (refl, zero_below _ refl) (refl, zero_below _ refl) (idle (reverse step_refused) rest_after_refusal) driven_step_refused
 
 -- a step that is refused ends no run: its setup didn't fail, and the next step is given
 refused_run : AreRuns spec_refused (filled_with refused_steps) (run_of 1 setups.Done refused_journal ∷ [])
@@ -219,7 +223,8 @@ refused_run = (
     permutation = refl;
     legal = refused_journal_is_legal;
     whole = record {
-      driven_by = refl;
+      as_due = (refl, (refl, (refl, (refl, (refl, (refl, tt))))));
+      all_done = refl;
       in_turn = (tt, (tt, driven_refused));
       all_closed = refused_both_closed;
     };

@@ -3,7 +3,7 @@ use Rattle.std.proofs.Common.{◌≡◌, ℕ, ◌<◌, ◌≤◌, [], ◌∷◌,
 use Rattle.std.specs.Prelude.{◌==◌}
 use mathlib.Core.Path.{fun_ext}
 use Rattle.std.proofs.lemmas.Bool.{eqb-true, ne_eqb}
-use Rattle.al_history.specs.declared.entry.Entry.TheVariants.{Give, Start, Look, Make, Add, Read, Alter, Done, Refuse, Commit, Abort, Cancel, End, Close}
+use Rattle.al_history.specs.declared.entry.Entry.TheVariants.{Give, Start, Wait, Lock, Look, Make, Add, Read, Alter, Done, Refuse, Commit, Abort, Cancel, End, Close}
 use Rattle.al_history.specs.declared.statement.Scripts.{Scripts}
 use Rattle.al_history.specs.Past.{Past}
 use Rattle.al_history.specs.Fate.{Open, Committed, Aborted, fate, Standing, Inside, standing, inside_if, outside_if}
@@ -17,6 +17,8 @@ pub views_agree : (scripts : Scripts) (past : Past) (f g : ℕ → Standing) →
 views_agree scripts [] f g l h = refl
 views_agree scripts (Give r block ∷ past) f g l h = views_agree scripts past f g l.1 (λ z lt. h z (omega arith))
 views_agree scripts (Start r level ∷ past) f g l h = views_agree scripts past f g l.1 (λ z lt. h z (omega arith))
+views_agree scripts (Wait x want ∷ past) f g l h = views_agree scripts past f g l.1 (λ z lt. h z (omega arith))
+views_agree scripts (Lock x table mode ∷ past) f g l h = views_agree scripts past f g l.1 (λ z lt. h z (omega arith))
 views_agree scripts (Look x ∷ past) f g l h = views_agree scripts past f g l.1 (λ z lt. h z (omega arith))
 views_agree scripts (Make x table name shape ∷ past) f g l h =
     let db : view_by scripts f past ≡ view_by scripts g past = views_agree scripts past f g l.1 (λ z lt. h z (omega arith)) in

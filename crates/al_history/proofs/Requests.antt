@@ -1,0 +1,341 @@
+-- A session has one request that waits at most.
+use Rattle.std.proofs.Common.{◌≡◌, ℕ, List, [], ◌∷◌, ◌++◌, refl, sym, ap, cond, true, false, Bool, Option, Some, None, ◌∙◌, ◌⊎◌, inl, inr}
+use Rattle.std.specs.Prelude.{◌==◌, ◌||◌, not, is_some}
+use Rattle.std.specs.List.{list_any}
+use Rattle.std.proofs.lemmas.Bool.{eq-eqb, eqb-true, and_parts, or_parts, or_from, or_left, or_right, not-true, not-false, false_from_ne_true}
+use Rattle.al_modes.specs.declared.mode.Mode.{Mode}
+use Rattle.al_history.specs.declared.entry.Want.{Want}
+use Rattle.al_history.specs.declared.entry.Want.TheVariants as wants
+use Rattle.al_history.specs.declared.entry.Reply.{Reply}
+use Rattle.al_history.specs.declared.entry.Entry.{Entry}
+use Rattle.al_history.specs.declared.entry.Entry.TheVariants.{Give, Start, Wait, Lock, Look, Make, Add, Read, Alter, Done, Refuse, Commit, Abort, Cancel, End, Close}
+use Rattle.al_history.specs.declared.statement.Statement.{Statement}
+use Rattle.al_history.specs.declared.statement.Statement.TheVariants as statements
+use Rattle.al_history.specs.declared.statement.Scripts.{Scripts}
+use Rattle.al_history.specs.Past.{Past}
+use Rattle.al_history.specs.Database.{Table, named}
+use Rattle.al_history.specs.Fate.{is_that}
+use Rattle.al_history.specs.Hand.{hand, refused, in_hand, xact_of, session_of, look_of, acts_of, BlockState, block_state}
+use Rattle.al_history.specs.Cause.{used_name}
+use Rattle.al_history.specs.Locks.{Claim, claim, same_claim, without, held, waiting, grantable, is_settled, is_held}
+use Rattle.al_history.specs.Waits.{wanted_by, can_go_on, holds_up}
+use Rattle.al_history.specs.Need.{lacking}
+use Rattle.al_history.specs.View.{latest}
+use Rattle.al_history.specs.Tail.{abort_or_end, owed, Follows}
+use Rattle.al_history.specs.Rules.{Answers, ActRule}
+use Rattle.al_history.specs.Legal.{Legal}
+use Rattle.al_history.proofs.Pasts.{if_same}
+use Rattle.al_history.proofs.Claims.{is_that_so, true_of_none, claim_itself, held_push, held_left, waiting_open}
+use Rattle.al_history.proofs.Looks.{ends_next, refused_owes, IsInStep, in_step, none_done}
+use Rattle.al_history.proofs.Names.{IsFound}
+use Rattle.al_history.proofs.Needs.{needed_mode, lock_held, LacksInHand, lacks_in_hand}
+use Rattle.al_history.proofs.Steady.{still_found}
+use Rattle.al_history.proofs.Suffices.{locks_suffice}
+use Rattle.al_history.proofs.Xacts.{xact_is, turn}
+
+-- ---- who waits
+
+-- the session of a request waits for it: nothing came from it since, and it lacks the lock still
+pub record IsAwaiting (scripts : Scripts) (past : Past) (c : Claim) : Type 0 where
+  pub x : ℕ
+  pub own : xact_of past c.session ≡ Some x
+  pub wanted : wanted_by past c.session ≡ Some (wants.Table c.table c.mode)
+  pub before_look : look_of past c.session ≡ None
+  pub statement : Statement
+  pub name : List ℕ
+  pub t : Table
+  pub is : in_hand scripts past c.session ≡ Some statement
+  pub uses : used_name statement ≡ Some name
+  pub found : named (latest scripts past x) name ≡ Some t
+  pub claimed : c ≡ record { session = c.session; table = t.number; mode = needed_mode statement }
+  pub absent : is_held (held past) c ≡ false
+
+-- the session is refused, or its transaction aborted, next
+abbrev pub IsLeaving : Past → Option Entry → ℕ → Type 0
+IsLeaving past (Some (Refuse r cause)) s = r ≡ s
+IsLeaving past (Some (Abort x)) s = session_of past x ≡ s
+IsLeaving past o s = ⊥
+
+leaves_next : (past : Past) (o : Option Entry) (e : Entry) (s : ℕ) → Follows o e → IsLeaving past o s → IsLeaving past (Some e) s
+leaves_next past None e s follows leaving = absurd leaving
+leaves_next past (Some next) e s follows leaving = rw follows leaving
+
+-- who leaves has left once its transaction is aborted
+leaves_on : (scripts : Scripts) (past : Past) (e : Entry) (c : Claim) → Legal scripts (e ∷ past) → is_held (waiting past) c ≡ true → is_held (waiting (e ∷ past)) c ≡ true → IsLeaving past (owed scripts past) c.session → IsLeaving (e ∷ past) (owed scripts (e ∷ past)) c.session
+leaves_on scripts past (Lock x table mode) c legal before there leaving = leaving
+leaves_on scripts past (Refuse r cause) c legal before there leaving =
+    let same : r ≡ c.session = leaves_next past (owed scripts past) (Refuse r cause) c.session legal.0.follows leaving in
+    by_xact (xact_of past c.session) refl (waiting_open scripts past legal.1 c before) same where
+      by_xact : (o : Option ℕ) → xact_of past c.session ≡ o → is_some o ≡ true → r ≡ c.session → IsLeaving (Refuse r cause ∷ past) (Some (abort_or_end (xact_of past r) r)) c.session
+      by_xact None is some same = absurd cc
+      by_xact (Some x) is some same = rw (same, is) (xact_is scripts past c.session x legal.1 is).own
+leaves_on scripts past (Abort x) c legal before there leaving =
+    let same : session_of past x ≡ c.session = leaves_next past (owed scripts past) (Abort x) c.session legal.0.follows leaving in
+    let other : (c.session == session_of past x) ≡ false = (held_left (session_of past x) (waiting past) c there).1 in
+    let yes : (c.session == session_of past x) ≡ true = eq-eqb c.session (session_of past x) (sym same) in
+    absurd cc
+leaves_on scripts past e c legal before there leaving = absurd (leaves_next past (owed scripts past) e c.session legal.0.follows leaving)
+
+-- ---- entries of others
+
+-- what stays as it was leaves the session waiting
+awaits_on : (scripts : Scripts) (past after : Past) (c : Claim) → (a : IsAwaiting scripts past c) → xact_of after c.session ≡ xact_of past c.session → wanted_by after c.session ≡ wanted_by past c.session → look_of after c.session ≡ look_of past c.session → in_hand scripts after c.session ≡ in_hand scripts past c.session → IsFound (latest scripts after a.x) a.name a.t ⊥ → is_held (held after) c ≡ false → IsAwaiting scripts after c
+awaits_on scripts past after c a xact wanted look statement found absent = record {
+  x = a.x;
+  own = xact ∙ a.own;
+  wanted = wanted ∙ a.wanted;
+  before_look = look ∙ a.before_look;
+  statement = a.statement;
+  name = a.name;
+  t = found.t;
+  is = statement ∙ a.is;
+  uses = a.uses;
+  found = found.is;
+  claimed = rw found.number a.claimed;
+  absent = absent;
+}
+
+-- an entry of another session is of another transaction
+not_its : (scripts : Scripts) (past : Past) (s y : ℕ) → Legal scripts past → (session_of past y == s) ≡ false → is_that (xact_of past s) y ≡ false
+not_its scripts past s y legal other = false_from_ne_true (is_that (xact_of past s) y) (λ its.
+    let own : session_of past y ≡ s = (xact_is scripts past s y legal (is_that_so (xact_of past s) y its)).own in
+    let yes : (session_of past y == s) ≡ true = eq-eqb (session_of past y) s own in
+    absurd cc)
+
+-- a lock of another session isn't the one that is awaited
+not_got : (claims : List Claim) (c d : Claim) → is_held claims c ≡ false → (c.session == d.session) ≡ false → is_held (claims ++ d ∷ []) c ≡ false
+not_got claims c d absent other = false_from_ne_true (is_held (claims ++ d ∷ []) c) (λ there. by_case (held_push claims c d there)) where
+  by_case : (is_held claims c ≡ true) ⊎ (d ≡ c) → ⊥
+  by_case (inl before) = absurd cc
+  by_case (inr same) = let yes : (c.session == d.session) ≡ true = eq-eqb c.session d.session (ap (λ (u : Claim). u.session) (sym same)) in absurd cc
+
+not_left : (s : ℕ) (claims : List Claim) (c : Claim) → is_held claims c ≡ false → is_held (without s claims) c ≡ false
+not_left s claims c absent = false_from_ne_true (is_held (without s claims) c) (λ there. let before : is_held claims c ≡ true = (held_left s claims c there).0 in absurd cc)
+
+found_still : (scripts : Scripts) (past : Past) (e : Entry) (c : Claim) → (a : IsAwaiting scripts past c) → Legal scripts (e ∷ past) → xact_of (e ∷ past) c.session ≡ Some a.x → IsFound (latest scripts (e ∷ past) a.x) a.name a.t ⊥
+found_still scripts past e c a legal later = still_found scripts past e c.session a.x a.name a.t legal (locks_suffice scripts (e ∷ past) legal) a.own later a.found
+
+-- ---- entries of the session itself
+
+-- a statement that has done nothing isn't done, unless it uses no table
+none_answers : (statement : Statement) (name : List ℕ) (x : ℕ) (state : BlockState) (reply : Reply) → used_name statement ≡ Some name → Answers (Some statement) [] (Some x) state reply → ⊥
+none_answers statements.Begin name x state reply uses answers = absurd cc
+none_answers statement name x state reply uses answers = answers
+
+-- nobody waits again who waits already
+pub waits_once : (scripts : Scripts) (past : Past) (c : Claim) → is_settled past ≡ true → is_held (waiting past) c ≡ true → IsAwaiting scripts past c → can_go_on past c.session ≡ true → ⊥
+waits_once scripts past c settled there a can =
+    let parts = and_parts (is_some (hand past c.session)) (not (holds_up past c.session (wanted_by past c.session))) can in
+    let free : not (not (grantable past c)) ≡ true = rw a.wanted at parts.1 in
+    let yes : grantable past c ≡ true = not-false (grantable past c) (not-true (not (grantable past c)) free) in
+    let no : grantable past c ≡ false = true_of_none (grantable past) (waiting past) c there (not-true (list_any (grantable past) (waiting past)) settled) in
+    absurd cc
+
+-- nothing has its place that lacks its lock
+no_look : (scripts : Scripts) (past : Past) (c : Claim) (y : ℕ) → IsAwaiting scripts past c → session_of past y ≡ c.session → xact_of past (session_of past y) ≡ Some y → lacking scripts past y ≡ None → ⊥
+no_look scripts past c y a session own none =
+    let its : xact_of past c.session ≡ Some y = rw session at own in
+    let same : a.x ≡ y = of_some a.x y (sym a.own ∙ its) in
+    let lock : is_held (held past) (record { session = session_of past y; table = a.t.number; mode = needed_mode a.statement }) ≡ true = lock_held scripts past y a.statement a.name a.t none (rw session a.is) a.uses (rw same at a.found) in
+    let yes : is_held (held past) c ≡ true = rw a.claimed (rw session at lock) in
+    let no : is_held (held past) c ≡ false = a.absent in
+    absurd cc where
+      of_some : (n m : ℕ) → Some n ≡ Some m → n ≡ m
+      of_some n m e = cc
+
+-- nothing acts that hasn't looked
+no_act : (scripts : Scripts) (past : Past) (c : Claim) (y : ℕ) → IsAwaiting scripts past c → session_of past y ≡ c.session → ActRule scripts past y → ⊥
+no_act scripts past c y a session act =
+    let there : is_some (look_of past c.session) ≡ true = rw session at act.looked in
+    let no : is_some {T = Past} None ≡ true = rw a.before_look at there in
+    absurd cc
+
+no_done : (scripts : Scripts) (past : Past) (c : Claim) (reply : Reply) → Legal scripts past → IsAwaiting scripts past c → Answers (in_hand scripts past c.session) (acts_of past c.session) (xact_of past c.session) (block_state past c.session) reply → ⊥
+no_done scripts past c reply legal a answers = none_answers a.statement a.name a.x (block_state past c.session) reply a.uses (rw (a.is, none_done scripts past c.session legal a.before_look, a.own) at answers)
+
+no_end : (scripts : Scripts) (past : Past) (c : Claim) → Legal scripts past → IsAwaiting scripts past c → Follows (owed scripts past) (End c.session) → (in_hand scripts past c.session ≡ None) ⊎ (refused past c.session ≡ true) → ⊥
+no_end scripts past c legal a follows (inl none) = let is : in_hand scripts past c.session ≡ Some a.statement = a.is in absurd cc
+no_end scripts past c legal a follows (inr was) =
+    let i : IsInStep past c.session = in_step scripts past c.session a.statement a.is in
+    let next : End c.session ≡ abort_or_end (xact_of past c.session) c.session = ends_next (owed scripts past) (End c.session) (xact_of past c.session) c.session follows (refused_owes scripts past c.session i.block legal was i.step) in
+    let other : ◌≡◌ {A = Entry} (End c.session) (Abort a.x) = rw a.own at next in
+    absurd cc
+
+-- ---- each entry
+
+-- a session that waits goes on waiting, or leaves
+awaits_step : (scripts : Scripts) (past : Past) (e : Entry) (c : Claim) → Legal scripts (e ∷ past) → is_held (waiting past) c ≡ true → is_held (waiting (e ∷ past)) c ≡ true → IsAwaiting scripts past c → IsAwaiting scripts (e ∷ past) c ⊎ IsLeaving (e ∷ past) (owed scripts (e ∷ past)) c.session
+awaits_step scripts past (Give r block) c legal before there a = by_test (r == c.session) refl where
+  by_test : (b : Bool) → (r == c.session) ≡ b → IsAwaiting scripts (Give r block ∷ past) c ⊎ IsLeaving (Give r block ∷ past) (owed scripts (Give r block ∷ past)) c.session
+  by_test true same = let its : r ≡ c.session = eqb-true _ _ same in let i : IsInStep past c.session = in_step scripts past c.session a.statement a.is in let idle : hand past c.session ≡ None = rw its at legal.0.rule.idle in let step : hand past c.session ≡ Some i.block = i.step in absurd cc
+  by_test false other = inl (awaits_on scripts past (Give r block ∷ past) c a refl (rw other refl) (rw other refl) (rw other refl) (found_still scripts past (Give r block) c a legal a.own) a.absent)
+awaits_step scripts past (Start r level) c legal before there a = by_test (r == c.session) refl where
+  by_test : (b : Bool) → (r == c.session) ≡ b → IsAwaiting scripts (Start r level ∷ past) c ⊎ IsLeaving (Start r level ∷ past) (owed scripts (Start r level ∷ past)) c.session
+  by_test true same = let its : r ≡ c.session = eqb-true _ _ same in let none : xact_of past c.session ≡ None = rw its at legal.0.rule.none_open in let own : xact_of past c.session ≡ Some a.x = a.own in absurd cc
+  by_test false other = inl (awaits_on scripts past (Start r level ∷ past) c a (rw other refl) (rw other refl) refl refl (found_still scripts past (Start r level) c a legal (rw other a.own)) a.absent)
+awaits_step scripts past (Wait y want) c legal before there a = by_test (session_of past y == c.session) refl where
+  by_test : (b : Bool) → (session_of past y == c.session) ≡ b → IsAwaiting scripts (Wait y want ∷ past) c ⊎ IsLeaving (Wait y want ∷ past) (owed scripts (Wait y want ∷ past)) c.session
+  by_test true same = let its : session_of past y ≡ c.session = eqb-true _ _ same in absurd (waits_once scripts past c legal.0.settled before a (rw its at legal.0.rule.in_step))
+  by_test false other = inl (awaits_on scripts past (Wait y want ∷ past) c a refl (rw other refl) refl refl (found_still scripts past (Wait y want) c a legal a.own) a.absent)
+awaits_step scripts past (Lock y table mode) c legal before there a =
+    let apart : (c.session == session_of past y) ≡ false = (held_left (session_of past y) (waiting past) c there).1 in
+    let other : (session_of past y == c.session) ≡ false = turn c.session (session_of past y) apart in
+    inl (awaits_on scripts past (Lock y table mode ∷ past) c a refl (rw other refl) refl refl (found_still scripts past (Lock y table mode) c a legal a.own) (not_got (held past) c (claim past y table mode) a.absent apart))
+awaits_step scripts past (Look y) c legal before there a = by_test (session_of past y == c.session) refl where
+  by_test : (b : Bool) → (session_of past y == c.session) ≡ b → IsAwaiting scripts (Look y ∷ past) c ⊎ IsLeaving (Look y ∷ past) (owed scripts (Look y ∷ past)) c.session
+  by_test true same = let its : session_of past y ≡ c.session = eqb-true _ _ same in absurd (no_look scripts past c y a its legal.0.rule.open_xact legal.0.rule.locked)
+  by_test false other = inl (awaits_on scripts past (Look y ∷ past) c a refl (rw other refl) (rw (not_its scripts past c.session y legal.1 other) refl) refl (found_still scripts past (Look y) c a legal a.own) a.absent)
+awaits_step scripts past (Make y table name shape) c legal before there a = by_test (session_of past y == c.session) refl where
+  by_test : (b : Bool) → (session_of past y == c.session) ≡ b → IsAwaiting scripts (Make y table name shape ∷ past) c ⊎ IsLeaving (Make y table name shape ∷ past) (owed scripts (Make y table name shape ∷ past)) c.session
+  by_test true same = let its : session_of past y ≡ c.session = eqb-true _ _ same in absurd (no_act scripts past c y a its legal.0.rule.act)
+  by_test false other = inl (awaits_on scripts past (Make y table name shape ∷ past) c a refl (rw other refl) refl refl (found_still scripts past (Make y table name shape) c a legal a.own) a.absent)
+awaits_step scripts past (Add y table row) c legal before there a = by_test (session_of past y == c.session) refl where
+  by_test : (b : Bool) → (session_of past y == c.session) ≡ b → IsAwaiting scripts (Add y table row ∷ past) c ⊎ IsLeaving (Add y table row ∷ past) (owed scripts (Add y table row ∷ past)) c.session
+  by_test true same = let its : session_of past y ≡ c.session = eqb-true _ _ same in absurd (no_act scripts past c y a its legal.0.rule.act)
+  by_test false other = inl (awaits_on scripts past (Add y table row ∷ past) c a refl (rw other refl) refl refl (found_still scripts past (Add y table row) c a legal a.own) a.absent)
+awaits_step scripts past (Read y names rows) c legal before there a = by_test (session_of past y == c.session) refl where
+  by_test : (b : Bool) → (session_of past y == c.session) ≡ b → IsAwaiting scripts (Read y names rows ∷ past) c ⊎ IsLeaving (Read y names rows ∷ past) (owed scripts (Read y names rows ∷ past)) c.session
+  by_test true same = let its : session_of past y ≡ c.session = eqb-true _ _ same in absurd (no_act scripts past c y a its legal.0.rule.act)
+  by_test false other = inl (awaits_on scripts past (Read y names rows ∷ past) c a refl (rw other refl) refl refl (found_still scripts past (Read y names rows) c a legal a.own) a.absent)
+awaits_step scripts past (Alter y table statement rewritten) c legal before there a = by_test (session_of past y == c.session) refl where
+  by_test : (b : Bool) → (session_of past y == c.session) ≡ b → IsAwaiting scripts (Alter y table statement rewritten ∷ past) c ⊎ IsLeaving (Alter y table statement rewritten ∷ past) (owed scripts (Alter y table statement rewritten ∷ past)) c.session
+  by_test true same = let its : session_of past y ≡ c.session = eqb-true _ _ same in absurd (no_act scripts past c y a its legal.0.rule.act)
+  by_test false other = inl (awaits_on scripts past (Alter y table statement rewritten ∷ past) c a refl (rw other refl) refl refl (found_still scripts past (Alter y table statement rewritten) c a legal a.own) a.absent)
+awaits_step scripts past (Done r reply) c legal before there a = by_test (r == c.session) refl where
+  by_test : (b : Bool) → (r == c.session) ≡ b → IsAwaiting scripts (Done r reply ∷ past) c ⊎ IsLeaving (Done r reply ∷ past) (owed scripts (Done r reply ∷ past)) c.session
+  by_test true same = let its : r ≡ c.session = eqb-true _ _ same in absurd (no_done scripts past c reply legal.1 a (rw its at legal.0.rule.answers))
+  by_test false other = inl (awaits_on scripts past (Done r reply ∷ past) c a refl (rw other refl) (rw other refl) (rw other refl) (found_still scripts past (Done r reply) c a legal a.own) a.absent)
+awaits_step scripts past (Refuse r cause) c legal before there a = by_test (r == c.session) refl where
+  by_test : (b : Bool) → (r == c.session) ≡ b → IsAwaiting scripts (Refuse r cause ∷ past) c ⊎ IsLeaving (Refuse r cause ∷ past) (owed scripts (Refuse r cause ∷ past)) c.session
+  by_test true same = let its : r ≡ c.session = eqb-true _ _ same in inr (rw (its, a.own) (xact_is scripts past c.session a.x legal.1 a.own).own)
+  by_test false other = inl (awaits_on scripts past (Refuse r cause ∷ past) c a refl (rw other refl) refl refl (found_still scripts past (Refuse r cause) c a legal a.own) a.absent)
+awaits_step scripts past (Commit y) c legal before there a =
+    let apart : (c.session == session_of past y) ≡ false = (held_left (session_of past y) (waiting past) c there).1 in
+    let other : (session_of past y == c.session) ≡ false = turn c.session (session_of past y) apart in
+    inl (awaits_on scripts past (Commit y ∷ past) c a (rw (not_its scripts past c.session y legal.1 other) refl) (rw other refl) refl refl (found_still scripts past (Commit y) c a legal (rw (not_its scripts past c.session y legal.1 other) a.own)) (not_left (session_of past y) (held past) c a.absent))
+awaits_step scripts past (Abort y) c legal before there a =
+    let apart : (c.session == session_of past y) ≡ false = (held_left (session_of past y) (waiting past) c there).1 in
+    let other : (session_of past y == c.session) ≡ false = turn c.session (session_of past y) apart in
+    inl (awaits_on scripts past (Abort y ∷ past) c a (rw (not_its scripts past c.session y legal.1 other) refl) (rw other refl) refl refl (found_still scripts past (Abort y) c a legal (rw (not_its scripts past c.session y legal.1 other) a.own)) (not_left (session_of past y) (held past) c a.absent))
+awaits_step scripts past (Cancel r) c legal before there a = by_test (r == c.session) refl where
+  by_test : (b : Bool) → (r == c.session) ≡ b → IsAwaiting scripts (Cancel r ∷ past) c ⊎ IsLeaving (Cancel r ∷ past) (owed scripts (Cancel r ∷ past)) c.session
+  by_test true same = let its : r ≡ c.session = eqb-true _ _ same in inr its
+  by_test false other = inl (awaits_on scripts past (Cancel r ∷ past) c a refl (rw other refl) refl refl (found_still scripts past (Cancel r) c a legal a.own) a.absent)
+awaits_step scripts past (End r) c legal before there a = by_test (r == c.session) refl where
+  by_test : (b : Bool) → (r == c.session) ≡ b → IsAwaiting scripts (End r ∷ past) c ⊎ IsLeaving (End r ∷ past) (owed scripts (End r ∷ past)) c.session
+  by_test true same = let its : r ≡ c.session = eqb-true _ _ same in absurd (no_end scripts past c legal.1 a (rw its at legal.0.follows) (rw its at legal.0.rule.over))
+  by_test false other = inl (awaits_on scripts past (End r ∷ past) c a refl (rw other refl) refl (rw other refl) (found_still scripts past (End r) c a legal a.own) a.absent)
+awaits_step scripts past (Close r) c legal before there a = by_test (r == c.session) refl where
+  by_test : (b : Bool) → (r == c.session) ≡ b → IsAwaiting scripts (Close r ∷ past) c ⊎ IsLeaving (Close r ∷ past) (owed scripts (Close r ∷ past)) c.session
+  by_test true same = let its : r ≡ c.session = eqb-true _ _ same in let none : xact_of past c.session ≡ None = rw its at legal.0.rule.none_open in let own : xact_of past c.session ≡ Some a.x = a.own in absurd cc
+  by_test false other = inl (awaits_on scripts past (Close r ∷ past) c a refl (rw other refl) refl refl (found_still scripts past (Close r) c a legal a.own) a.absent)
+
+-- the session of a new request waits
+awaits_new : (scripts : Scripts) (past : Past) (y table : ℕ) (mode : Mode) → Legal scripts (Wait y (wants.Table table mode) ∷ past) → IsAwaiting scripts (Wait y (wants.Table table mode) ∷ past) (claim past y table mode)
+awaits_new scripts past y table mode legal =
+    let l : LacksInHand scripts past y (claim past y table mode) = lacks_in_hand scripts past y (claim past y table mode) legal.0.rule.waits_for.1 in
+    record {
+      x = y;
+      own = legal.0.rule.open_xact;
+      wanted = rw (if_same (session_of past y)) refl;
+      before_look = legal.0.rule.waits_for.0;
+      statement = l.statement;
+      name = l.lacks.name;
+      t = l.lacks.t;
+      is = l.is;
+      uses = l.lacks.uses;
+      found = l.lacks.found;
+      claimed = l.lacks.is;
+      absent = l.lacks.absent;
+    }
+
+awaits_go : (scripts : Scripts) (past : Past) (e : Entry) (c : Claim) → Legal scripts (e ∷ past) → is_held (waiting past) c ≡ true → is_held (waiting (e ∷ past)) c ≡ true → IsAwaiting scripts past c ⊎ IsLeaving past (owed scripts past) c.session → IsAwaiting scripts (e ∷ past) c ⊎ IsLeaving (e ∷ past) (owed scripts (e ∷ past)) c.session
+awaits_go scripts past e c legal before there (inl a) = awaits_step scripts past e c legal before there a
+awaits_go scripts past e c legal before there (inr leaving) = inr (leaves_on scripts past e c legal before there leaving)
+
+-- the session of a request waits for it, or leaves
+pub awaiting : (scripts : Scripts) (past : Past) → Legal scripts past → (c : Claim) → is_held (waiting past) c ≡ true → IsAwaiting scripts past c ⊎ IsLeaving past (owed scripts past) c.session
+awaiting scripts [] legal c there = absurd cc
+awaiting scripts (Wait y (wants.Table table mode) ∷ past) legal c there = by_case (held_push (waiting past) c (claim past y table mode) there) (λ before. awaits_go scripts past (Wait y (wants.Table table mode)) c legal before there (awaiting scripts past legal.1 c before)) where
+  by_case : (is_held (waiting past) c ≡ true) ⊎ (claim past y table mode ≡ c) → (is_held (waiting past) c ≡ true → IsAwaiting scripts (Wait y (wants.Table table mode) ∷ past) c ⊎ IsLeaving (Wait y (wants.Table table mode) ∷ past) (owed scripts (Wait y (wants.Table table mode) ∷ past)) c.session) → IsAwaiting scripts (Wait y (wants.Table table mode) ∷ past) c ⊎ IsLeaving (Wait y (wants.Table table mode) ∷ past) (owed scripts (Wait y (wants.Table table mode) ∷ past)) c.session
+  by_case (inl before) more = more before
+  by_case (inr same) more = inl (rw (← same) (awaits_new scripts past y table mode legal))
+awaiting scripts (Wait y (wants.Ends z) ∷ past) legal c there = awaits_go scripts past (Wait y (wants.Ends z)) c legal there there (awaiting scripts past legal.1 c there)
+awaiting scripts (Lock y table mode ∷ past) legal c there =
+    let before : is_held (waiting past) c ≡ true = (held_left (session_of past y) (waiting past) c there).0 in
+    awaits_go scripts past (Lock y table mode) c legal before there (awaiting scripts past legal.1 c before)
+awaiting scripts (Commit y ∷ past) legal c there =
+    let before : is_held (waiting past) c ≡ true = (held_left (session_of past y) (waiting past) c there).0 in
+    awaits_go scripts past (Commit y) c legal before there (awaiting scripts past legal.1 c before)
+awaiting scripts (Abort y ∷ past) legal c there =
+    let before : is_held (waiting past) c ≡ true = (held_left (session_of past y) (waiting past) c there).0 in
+    awaits_go scripts past (Abort y) c legal before there (awaiting scripts past legal.1 c before)
+awaiting scripts (e ∷ past) legal c there = awaits_go scripts past e c legal there there (awaiting scripts past legal.1 c there)
+
+-- ---- one request
+
+-- whether a session has a request among these
+abbrev pub has_request : List Claim → ℕ → Bool
+has_request claims s = list_any (λ (c : Claim). c.session == s) claims
+
+-- each is of another session
+abbrev pub AreDistinct : List Claim → Type 0
+AreDistinct [] = Unit {0}
+AreDistinct (c ∷ claims) = (has_request claims c.session ≡ false) × AreDistinct claims
+
+pub record IsRequest (claims : List Claim) (s : ℕ) : Type 0 where
+  pub c : Claim
+  pub there : is_held claims c ≡ true
+  pub own : c.session ≡ s
+
+pub request_of : (claims : List Claim) (s : ℕ) → has_request claims s ≡ true → IsRequest claims s
+request_of [] s has = absurd cc
+request_of (c ∷ claims) s has = by_test (c.session == s) refl has (λ h. request_of claims s h) where
+  by_test : (b : Bool) → (c.session == s) ≡ b → (b || has_request claims s) ≡ true → (has_request claims s ≡ true → IsRequest claims s) → IsRequest (c ∷ claims) s
+  by_test true own has more = record { c = c; there = or_left (same_claim c c) (is_held claims c) (claim_itself c); own = eqb-true c.session s own }
+  by_test false other has more = let rest : IsRequest claims s = more has in record { c = rest.c; there = or_right (same_claim rest.c c) (is_held claims rest.c) rest.there; own = rest.own }
+
+none_pushed : (claims : List Claim) (d : Claim) (s : ℕ) → has_request claims s ≡ false → (d.session == s) ≡ false → has_request (claims ++ d ∷ []) s ≡ false
+none_pushed [] d s none other = rw other refl
+none_pushed (c ∷ claims) d s none other =
+    let parts = or_parts (c.session == s) (has_request claims s) none in
+    or_from (c.session == s) (has_request (claims ++ d ∷ []) s) parts.0 (none_pushed claims d s parts.1 other)
+
+distinct_push : (claims : List Claim) (d : Claim) → AreDistinct claims → has_request claims d.session ≡ false → AreDistinct (claims ++ d ∷ [])
+distinct_push [] d distinct none = (refl, tt)
+distinct_push (c ∷ claims) d distinct none =
+    let parts = or_parts (c.session == d.session) (has_request claims d.session) none in
+    (none_pushed claims d c.session distinct.0 (turn c.session d.session parts.0), distinct_push claims d distinct.1 parts.1)
+
+none_left : (r : ℕ) (claims : List Claim) (s : ℕ) → has_request claims s ≡ false → has_request (without r claims) s ≡ false
+none_left r [] s none = refl
+none_left r (c ∷ claims) s none = by_test (c.session == r) (or_parts (c.session == s) (has_request claims s) none).0 (none_left r claims s (or_parts (c.session == s) (has_request claims s) none).1) where
+  by_test : (b : Bool) → (c.session == s) ≡ false → has_request (without r claims) s ≡ false → has_request (cond b (without r claims) (c ∷ without r claims)) s ≡ false
+  by_test true other rest = rest
+  by_test false other rest = or_from (c.session == s) (has_request (without r claims) s) other rest
+
+distinct_left : (r : ℕ) (claims : List Claim) → AreDistinct claims → AreDistinct (without r claims)
+distinct_left r [] distinct = tt
+distinct_left r (c ∷ claims) distinct = by_test (c.session == r) (distinct_left r claims distinct.1) where
+  by_test : (b : Bool) → AreDistinct (without r claims) → AreDistinct (cond b (without r claims) (c ∷ without r claims))
+  by_test true rest = rest
+  by_test false rest = (none_left r claims c.session distinct.0, rest)
+
+-- who begins to wait has no request yet
+pub none_waits : (scripts : Scripts) (past : Past) (y : ℕ) (want : Want) → Legal scripts (Wait y want ∷ past) → has_request (waiting past) (session_of past y) ≡ false
+none_waits scripts past y want legal = false_from_ne_true (has_request (waiting past) (session_of past y)) (λ has.
+    let r : IsRequest (waiting past) (session_of past y) = request_of (waiting past) (session_of past y) has in
+    by_case r (awaiting scripts past legal.1 r.c r.there)) where
+      by_case : (r : IsRequest (waiting past) (session_of past y)) → IsAwaiting scripts past r.c ⊎ IsLeaving past (owed scripts past) r.c.session → ⊥
+      by_case r (inl a) = waits_once scripts past r.c legal.0.settled r.there a (rw r.own legal.0.rule.in_step)
+      by_case r (inr leaving) = leaves_next past (owed scripts past) (Wait y want) r.c.session legal.0.follows leaving
+
+-- a session has one request that waits at most
+pub one_request : (scripts : Scripts) (past : Past) → Legal scripts past → AreDistinct (waiting past)
+one_request scripts [] legal = tt
+one_request scripts (Wait y (wants.Table table mode) ∷ past) legal = distinct_push (waiting past) (claim past y table mode) (one_request scripts past legal.1) (none_waits scripts past y (wants.Table table mode) legal)
+one_request scripts (Wait y (wants.Ends z) ∷ past) legal = one_request scripts past legal.1
+one_request scripts (Lock y table mode ∷ past) legal = distinct_left (session_of past y) (waiting past) (one_request scripts past legal.1)
+one_request scripts (Commit y ∷ past) legal = distinct_left (session_of past y) (waiting past) (one_request scripts past legal.1)
+one_request scripts (Abort y ∷ past) legal = distinct_left (session_of past y) (waiting past) (one_request scripts past legal.1)
+one_request scripts (e ∷ past) legal = one_request scripts past legal.1
