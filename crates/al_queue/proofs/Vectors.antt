@@ -5,7 +5,8 @@ use Rattle.al_modes.specs.declared.mode.Mode.TheVariants as modes
 use Rattle.al_queue.specs.declared.grant.Grant.{Grant}
 use Rattle.al_queue.specs.declared.grant.Asked.TheVariants.{Granted, Queued}
 use Rattle.al_queue.specs.Locks.{Locks}
-use Rattle.al_queue.specs.InWay.{answer}
+use Rattle.al_queue.specs.InWay.{held_up, answer}
+use Rattle.al_queue.specs.Settled.{Come}
 use Rattle.al_queue.specs.Waits.{blocked_by}
 use Rattle.al_queue.specs.Walk.{walked, released, withdrawn}
 
@@ -57,6 +58,18 @@ not_blocked_by_later = refl
 -- the front is granted when the lock is given up, and what it still holds up waits on
 pub front_granted : walked (released queued 0) ≡ record { held = rewriter ∷ []; waiting = later ∷ []; granted = rewriter ∷ [] }
 front_granted = refl
+
+-- who gives up its locks leaves the queue too
+pub leaves_queue : walked (released (record { held = reader ∷ lock 1 2 modes.Share ∷ []; waiting = rewriter ∷ later ∷ []; granted = [] }) 1)
+    ≡ record { held = reader ∷ later ∷ []; waiting = []; granted = later ∷ [] }
+leaves_queue = refl
+
+-- two that one walk grants come one after the other; one that a lock is in the way of doesn't come
+pub come_so : Come [] (rewriter ∷ lock 2 0 modes.RowExclusive ∷ later ∷ []) (lock 2 0 modes.RowExclusive ∷ rewriter ∷ []) (later ∷ [])
+come_so = (record { ahead = rewriter ∷ []; behind = later ∷ []; waits = refl; free = refl }, (record { ahead = []; behind = later ∷ []; waits = refl; free = refl }, refl))
+
+pub come_not_held_up : Come (reader ∷ []) (rewriter ∷ []) (rewriter ∷ []) [] → ⊥
+come_not_held_up come = let up : held_up (reader ∷ []) come.0.ahead rewriter ≡ true = refl in absurd (cc (come.0.free))
 
 -- one in the middle is taken back, and the one behind it is granted
 pub withdrawn_from_middle : walked (withdrawn queued 1) ≡ record { held = reader ∷ later ∷ []; waiting = []; granted = later ∷ [] }

@@ -10,6 +10,7 @@ use Rattle.al_queue.specs.Locks.{Locks}
 use Rattle.al_queue.specs.InWay.{is_in_way, held_up}
 use Rattle.al_queue.specs.Walk.{placed, passed, walked}
 use Rattle.al_queue.specs.Settled.{AllHeldUp, IsSettled, AscendsFrom, HandsOn}
+use Rattle.al_queue.proofs.Comes.{walk-comes}
 
 -- a grant is placed before the first of a table above its own
 insert-placed_by : (x : Grant) (xs : List Grant) (g : Grant) (n : ℕ) (b : Bool) → insert xs n g ≡ placed xs g
@@ -115,6 +116,7 @@ walked-hands_on locks =
       once = λ test. omega (arith, all.once test);
       gained = λ test. omega (arith, all.gained test);
       ascends = all.ascends tt;
+      rightly = walk-comes locks.held locks.waiting;
     }
 
 -- the same of the locks that a walk is said to leave

@@ -21,9 +21,12 @@ passed locks request =
 abbrev pub walked : Locks → Locks
 walked locks = fold passed (record { held = locks.held; waiting = []; granted = [] }) locks.waiting
 
--- a session's locks are given up
+-- a session's claims end: its locks, and its waiting request where it has one
 abbrev pub released : Locks → ℕ → Locks
-released locks session = record locks { held = filter (λ lock. not (lock.session == session)) locks.held }
+released locks session = record locks {
+  held = filter (λ lock. not (lock.session == session)) locks.held;
+  waiting = filter (λ request. not (request.session == session)) locks.waiting;
+}
 
 -- a session's waiting request is taken back
 abbrev pub withdrawn : Locks → ℕ → Locks

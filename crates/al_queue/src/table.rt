@@ -7,7 +7,7 @@ ghost use Rattle.al_queue.specs.Settled.{IsSettled, HandsOn};
 use crate::in_way::{
     any_like, any_of_session, count_of_table, is_held_up, least_in_way, position_of,
 };
-use crate::walk::{keep_others, walk_queues};
+use crate::walk::{end_claims, keep_others, walk_queues};
 use crate::{Asked, Grant};
 use al_modes::Mode;
 use al_values::NoMemory;
@@ -122,8 +122,8 @@ impl LockTable {
         least_in_way(request, found, &self.waiting)
     }
 
-    /// Gives up all locks of a session, and walks the queues. The answer is how many requests were granted. A request of
-    /// the session that waits stays where it is.
+    /// Ends all claims of a session, its locks and its waiting request where it has one, and walks the queues. The answer
+    /// is how many requests were granted.
     pub fn release(&mut self, session: u32) -> u32
         requires { session < self.old.sessions }
         ensures locks { self.new ≡ record { sessions = self.old.sessions; locks = walked (released self.old.locks session) } }
@@ -131,7 +131,7 @@ impl LockTable {
         ensures settled { IsSettled self.new.locks }
         ensures hands_on { HandsOn (released self.old.locks session) self.new.locks }
     {
-        keep_others(session, &mut self.held);
+        end_claims(session, &mut self.held, &mut self.waiting);
         walk_queues(
             &mut self.held,
             &mut self.waiting,

@@ -117,5 +117,20 @@ fn queue_cases(rt: HostRuntime) -> Result<(), Fail> {
     }
     assert_eq!(rt; locks.sessions(), 6);
     assert!(rt; !locks.holds(4, 2, Mode::AccessExclusive));
+
+    let calls = [
+        // Who releases its locks leaves the queue too, and those behind it are granted.
+        Call::Ask(
+            grant(3, 1, Mode::AccessExclusive),
+            Asked::Queued { place: 0 },
+        ),
+        Call::Ask(grant(1, 1, Mode::AccessShare), Asked::Queued { place: 1 }),
+        Call::Release(3, &[grant(1, 1, Mode::AccessShare)]),
+        Call::Release(0, &[]),
+    ];
+    for call in &calls {
+        check(&rt, &mut locks, call)?;
+    }
+    assert!(rt; !locks.waits(3));
     Ok(())
 }

@@ -96,3 +96,16 @@ pub fn keep_others(session: u32, grants: &mut Vec<Grant>)
 {
     grants.retain(|grant| grant.session != session);
 }
+
+/// Ends a session's claims: its locks, and its waiting request where it has one.
+pub fn end_claims(session: u32, held: &mut Vec<Grant>, waiting: &mut Vec<Grant>)
+    ensures held { held.new.items ≡ filter (λ lock. not (lock.session == session)) held.old.items }
+    ensures waiting { waiting.new.items ≡ filter (λ request. not (request.session == session)) waiting.old.items }
+    ensures held_len { vec_len held.new ≤ vec_len held.old }
+    ensures waiting_len { vec_len waiting.new ≤ vec_len waiting.old }
+    ensures held_capacity { vec_capacity held.new ≡ vec_capacity held.old }
+    ensures waiting_capacity { vec_capacity waiting.new ≡ vec_capacity waiting.old }
+{
+    keep_others(session, held);
+    keep_others(session, waiting);
+}
