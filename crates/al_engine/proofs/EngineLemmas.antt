@@ -1,53 +1,140 @@
--- What the engine keeps through each of its calls, and what a turn of it did.
-use Rattle.std.proofs.Common.{◌≡◌, ℕ, suc, ◌+◌, ◌<◌, ◌≤◌, List, [], ◌∷◌, length, refl, sym, ap, subst, true, false, Bool, Option, Some, None, arith, ◌∙◌, slice_get, slice_set, option_map, replicate, inr, zero}
-use Rattle.std.specs.Prelude.{◌==◌, is_some, get_or}
+-- What the engine keeps through each of its calls, and what contracts see of them.
+use Rattle.std.proofs.Common.{◌≡◌, ℕ, suc, zero, ◌+◌, ◌<◌, ◌≤◌, List, [], ◌∷◌, length, refl, sym, ap, subst, cond, true, false, Bool, Option, Some, None, arith, ◌∙◌, slice_get, slice_set, option_map, replicate, inl, inr}
+use Rattle.std.specs.Prelude.{◌==◌, IsSome, is_some, get_or}
 use Rattle.std.specs.List.{AllByRecursion}
+use Rattle.std.proofs.lemmas.Bool.{ne_eqb}
 use Rattle.std.proofs.lemmas.Option.{slice_get_within, slice_get_read}
 use Rattle.al_history.specs.declared.entry.Cause.TheVariants as causes
-use Rattle.al_history.specs.declared.entry.Entry.TheVariants.{Give, Refuse, Cancel, End, Close}
-use Rattle.al_history.specs.declared.statement.Statement.{Statement}
+use Rattle.al_history.specs.declared.entry.Entry.TheVariants.{Give, Abort, Cancel, Close}
+use Rattle.al_history.specs.declared.entry.Want.{Want}
 use Rattle.al_history.specs.declared.statement.ScriptBlock.{ScriptBlock}
 use Rattle.al_history.specs.declared.statement.Scripts.{Scripts}
 use Rattle.al_history.specs.Kept.{Kept}
 use Rattle.al_history.specs.Past.{Past, past_of}
-use Rattle.al_history.specs.Hand.{block_state, hand, closed, statement_of}
-use Rattle.al_history.specs.Rules.{has_place}
+use Rattle.al_history.specs.Hand.{hand, dones, in_hand, xact_of, closed, statement_of}
 use Rattle.al_history.specs.Legal.{MayCome}
+use Rattle.al_history.specs.Tail.{owed}
+use Rattle.al_history.specs.Waits.{wanted_by, is_blocked, can_go_on}
+use Rattle.al_history.specs.Whole.{driver, IsLeast, IsTurn}
+use Rattle.al_history.proofs.Comes.{comes_give, comes_cancel, comes_abort, comes_close}
+use Rattle.al_history.proofs.Doings.{doing, IsXact, own_moves, others_stay}
 use Rattle.al_history.proofs.Pasts.{if_same}
+use Rattle.al_history.proofs.Xacts.{xact_is}
+use Rattle.al_history.proofs.Turns.{Went, extends_on, extends_by, extends_none}
+use Rattle.al_queue.specs.Walk.{released}
+use Rattle.al_queue.specs.Settled.{IsSettled, HandsOn}
 use Rattle.al_engine.specs.declared.sessions.Session.{Session}
-use Rattle.al_engine.specs.declared.steps.Ended.{Ended}
-use Rattle.al_engine.specs.declared.stored.StoredTable.{StoredTable}
-use Rattle.al_engine.specs.Ran.{IsSingle, AreSingle, WentOn}
-use Rattle.al_engine.specs.Between.{IsFresh}
-use Rattle.al_engine.specs.Sessions.{idle_session, light_of}
-use Rattle.al_engine.specs.Stored.{tables_of}
-use Rattle.al_engine.specs.After.{IsAfter, IsBefore, is_refused}
-use Rattle.al_engine.specs.Kept.{IsKept}
-use Rattle.al_engine.proofs.Phases.{still_in_hand, block_refused}
-use Rattle.al_engine.proofs.Step.{turn_leads}
-use Rattle.al_engine.proofs.StoredLemmas.{sound_more}
-use Rattle.al_engine.proofs.SessionLemmas.{light_at, light_set, light_idle, mirrors_set, mirrors_at_first, length_set, past_end}
-use Rattle.al_engine.proofs.TurnLemmas.{did}
+use Rattle.al_engine.specs.Ran.{IsSingle, AreSingle, WentOn, IsWaitingTurn, IsCancelled, IsClosed}
+use Rattle.al_engine.specs.LockTie.{locked_by, locks_of, is_granted}
+use Rattle.al_engine.specs.Sessions.{idle_session, IsMirror, xact_in, woken, is_held_up, light, light_of, of_step, of_xact}
+use Rattle.al_engine.specs.Kept.{Parts, IsAmid, IsKept, IsSame, CanBeRefused, IsRefused}
+use Rattle.al_engine.specs.Closing.{HasLeft}
+use Rattle.al_engine.proofs.Amid.{still_cancel, still_close, amid_begins, amid_notes, abort_comes, amid_aborts, amid_stops}
+use Rattle.al_engine.proofs.Grants.{HaveCome, settled_then, driven_then}
+use Rattle.al_engine.proofs.LockLists.{LeavesSo, leaves_so, locked_is}
+use Rattle.al_engine.proofs.Mirrors.{unasked_idle}
+use Rattle.al_engine.proofs.Tails.{extends_granted}
+use Rattle.al_engine.proofs.Woken.{calmed, woken_get}
+use Rattle.al_engine.proofs.StoredLemmas.{tells_none}
+use Rattle.al_engine.proofs.SessionLemmas.{light_at, light_set, light_idle, length_set, got_idle, held_up_is, wanting_busy, idle_asks, mirrors_set, marked_set}
+
+-- ---- one of the sessions
+
+some_of : (o : Option ℕ) → is_some o ≡ true → (block : ℕ) × (o ≡ Some block)
+some_of None e = absurd cc
+some_of (Some block) e = (block, refl)
+
+pub none_of : (o : Option ℕ) → is_some o ≡ false → o ≡ None
+none_of None e = refl
+none_of (Some block) e = absurd cc
+
+module _ (scripts : Scripts) (p : Parts) (kept : IsKept scripts p) (s : ℕ) (t : Session) where
+  pub got : s < scripts.sessions → t ≡ get_or p.sessions s t → slice_get p.sessions s ≡ Some t
+  got known is = slice_get_read p.sessions scripts.sessions s t (sym kept.sound.count) known is
+
+  -- whether it has a step in hand
+  pub hand_is : slice_get p.sessions s ≡ Some t → hand (past_of p.journal) s ≡ t.hand
+  hand_is there = (kept.mirrors s t there).outline.hand_is
+
+  pub is_busy : slice_get p.sessions s ≡ Some t → is_some t.hand ≡ true → (block : ℕ) × (t.hand ≡ Some block) × (hand (past_of p.journal) s ≡ Some block)
+  is_busy there e = let block = some_of t.hand e in (block.0, block.1, hand_is there ∙ block.1)
+
+  -- its statement in hand is the one of its block
+  pub statement_there : slice_get p.sessions s ≡ Some t → is_some t.hand ≡ true → in_hand scripts (past_of p.journal) s ≡ statement_of scripts t.hand 0
+  statement_there there e =
+      let block = some_of t.hand e in
+      let none_done : dones (past_of p.journal) s ≡ 0 = ((kept.mirrors s t there).underway block.0 block.1).none_done in
+      rw (hand_is there, none_done) refl
+
+  pub is_idle : slice_get p.sessions s ≡ Some t → is_some t.hand ≡ false → hand (past_of p.journal) s ≡ None
+  is_idle there e = hand_is there ∙ none_of t.hand e
+
+  pub goes : slice_get p.sessions s ≡ Some t → is_some t.hand ≡ true → is_held_up p.sessions t.wants ≡ false → can_go_on (past_of p.journal) s ≡ true
+  goes there busy free =
+      let block = is_busy there busy in
+      let unblocked : is_blocked (past_of p.journal) s ≡ false = sym (held_up_is scripts p kept s t there) ∙ free in
+      rw (block.2, unblocked) refl
+
+  -- a turn waits
+  pub waits_by : slice_get p.sessions s ≡ Some t → is_some t.hand ≡ true → is_held_up p.sessions t.wants ≡ true → IsWaitingTurn (record { scripts = scripts; past = past_of p.journal }) (record { scripts = scripts; past = past_of p.journal }) s
+  waits_by there busy up =
+      let block = is_busy there busy in
+      record { same = refl; in_step = rw block.2 refl; blocked = sym (held_up_is scripts p kept s t there) ∙ up }
 
 -- ---- the first moment
 
-no_fresh : (scripts : Scripts) (s block : ℕ) → ◌≡◌ {A = Option ℕ} None (Some block) → IsFresh scripts [] s block
-no_fresh scripts s block e = absurd cc
-
-pub open_keeps : (scripts : Scripts) (journal : Kept) (sessions : List Session) → journal.entries ≡ [] → journal.room ≡ scripts.sessions → sessions ≡ replicate scripts.sessions idle_session → AreSingle scripts → IsKept scripts journal sessions []
-open_keeps scripts journal sessions none room idle single =
-    let past : past_of journal ≡ [] = rw none refl in
+pub open_keeps : (scripts : Scripts) (p : Parts) → p.journal.entries ≡ [] → p.journal.room ≡ scripts.sessions → p.sessions ≡ replicate scripts.sessions idle_session → p.tables ≡ [] → p.locks ≡ record { sessions = scripts.sessions; locks = record { held = []; waiting = []; granted = [] } } → p.committed ≡ [] → AreSingle scripts → IsKept scripts p
+open_keeps scripts p none room idle tables locks committed single =
+    let past : past_of p.journal ≡ [] = rw none refl in
     record {
-      between = rw past (record { legal = tt; xacts = λ s. refl; blocks = λ s. refl; owed_is = refl; uncut = λ s. refl; committed_is = refl; fates = λ x le. refl; fresh = λ s block e. no_fresh scripts s block e });
-      sound = tt;
-      count = rw idle (length_replicate scripts.sessions);
-      mirrors = rw (past, idle) (mirrors_at_first scripts.sessions);
-      reserved = rw (idle, light_idle scripts.sessions) (omega (arith, room));
-      single = single;
+      sound = record {
+        legal = rw past tt;
+        count = rw idle (length_replicate scripts.sessions);
+        beyond = λ r le. rw past refl;
+        stored = rw (past, tables) refl;
+        tells = rw (past, committed) tells_none;
+        marked = λ r x t is has.
+            let first : t ≡ idle_session = got_idle scripts.sessions r t (rw idle at is) in
+            absurd (let wrong : ◌≡◌ {A = Option ℕ} None (Some x) = rw first at has in cc);
+        table_count = rw locks refl;
+        tied = rw (past, locks) (record { waits = refl; holds = λ test. refl; apart = tt });
+        queues = rw locks tt;
+        reserved = rw (idle, locks, light_idle scripts.sessions) (omega (arith, room));
+        single = single;
+      };
+      wants_so = λ c there. absurd (let wrong : false ≡ true = rw past at there in cc);
+      mirrors = λ r t is.
+          let first : t ≡ idle_session = got_idle scripts.sessions r t (rw idle at is) in
+          rw (past, first) (record { outline = record { hand_is = refl; xact_is = refl; block_is = refl; closed_is = refl; wants_is = refl }; underway = λ block e. absurd cc });
+      clear = rw past (record { owed_is = refl; settled = refl });
     } where
       length_replicate : (n : ℕ) → length (replicate n idle_session) ≡ n
       length_replicate zero = refl
       length_replicate (suc n) = ap suc (length_replicate n)
+
+-- ---- a call for which there was no memory
+
+pub same_keeps : (scripts : Scripts) (p q : Parts) → IsSame p q → IsKept scripts p → IsKept scripts q
+same_keeps scripts p q same kept =
+    let sound = kept.sound in
+    record {
+      sound = record {
+        legal = rw same.journal sound.legal;
+        count = rw same.sessions sound.count;
+        beyond = rw (same.journal, same.sessions) sound.beyond;
+        stored = rw (same.journal, same.tables) sound.stored;
+        tells = rw (same.journal, same.committed) sound.tells;
+        marked = rw (same.sessions, same.committed) sound.marked;
+        table_count = rw same.locks sound.table_count;
+        tied = rw (same.journal, same.locks) sound.tied;
+        queues = rw same.locks sound.queues;
+        reserved = rw (same.sessions, same.locks) (omega (arith, sound.reserved, same.room));
+        single = sound.single;
+      };
+      wants_so = rw same.journal kept.wants_so;
+      mirrors = rw (same.journal, same.sessions) kept.mirrors;
+      clear = rw same.journal kept.clear;
+    }
 
 -- ---- a block is given
 
@@ -57,221 +144,273 @@ single_at sessions (c ∷ blocks) zero b all is = let e : c ≡ b = cc in subst 
 single_at sessions (c ∷ blocks) (suc block) b all is = single_at sessions blocks block b all.1 is
 
 -- a block that is given has its one statement
-has_its_one : (scripts : Scripts) (s block : ℕ) → AreSingle scripts → option_map (λ (b : ScriptBlock). b.session) (slice_get scripts.blocks block) ≡ Some s → (option_map has_place (statement_of scripts (Some block) 0) ≡ Some true) × (statement_of scripts (Some block) 1 ≡ None)
+has_its_one : (scripts : Scripts) (s block : ℕ) → AreSingle scripts → option_map (λ (b : ScriptBlock). b.session) (slice_get scripts.blocks block) ≡ Some s → IsSome (statement_of scripts (Some block) 0) × (statement_of scripts (Some block) 1 ≡ None)
 has_its_one scripts s block single of_session = by_block (slice_get scripts.blocks block) refl of_session where
-  by_block : (o : Option ScriptBlock) → slice_get scripts.blocks block ≡ o → option_map (λ (b : ScriptBlock). b.session) o ≡ Some s → (option_map has_place (statement_of scripts (Some block) 0) ≡ Some true) × (statement_of scripts (Some block) 1 ≡ None)
+  by_block : (o : Option ScriptBlock) → slice_get scripts.blocks block ≡ o → option_map (λ (b : ScriptBlock). b.session) o ≡ Some s → IsSome (statement_of scripts (Some block) 0) × (statement_of scripts (Some block) 1 ≡ None)
   by_block None is e = absurd cc
   by_block (Some b) is e = let one = single_at scripts.sessions scripts.blocks block b single is in (rw is one.has_one, rw is one.has_no_more)
 
-pub give_keeps : (scripts : Scripts) (old new : Kept) (sessions : List Session) (tables : List StoredTable) (s block : ℕ) (t : Session) → IsKept scripts old sessions tables → slice_get sessions s ≡ Some t → t.hand ≡ None → option_map (λ (b : ScriptBlock). b.session) (slice_get scripts.blocks block) ≡ Some s → closed (past_of old) s ≡ false → past_of new ≡ Give s block ∷ past_of old → new.room + 1 ≡ old.room + 5 → IsKept scripts new (slice_set sessions s (record { hand = Some block; closed = false })) tables
-give_keeps scripts old new sessions tables s block t kept there none of_session open_so is room =
-    let between = kept.between in
-    let past : Past = past_of old in
-    let same : (s == s) ≡ true = if_same s in
-    let mirror = kept.mirrors.each s t there in
-    let idle : hand (past_of old) s ≡ None = mirror.hand_is ∙ none in
-    let open_kept : t.closed ≡ false = sym mirror.closed_is ∙ open_so in
-    let one = has_its_one scripts s block kept.single of_session in
-    let gives : MayCome scripts (past_of old) (Give s block) = record {
-      rule = record { of_session = of_session; not_closed = open_so; idle = idle };
-      follows = rw between.owed_is tt;
-      alone = tt;
-    } in
-    let was : light_of t ≡ 1 = rw (none, open_kept) refl in
+-- five light entries at most are reserved for a step
+step_light : (o : Option ℕ) → of_step o ≤ 5
+step_light None = omega arith
+step_light (Some x) = omega arith
+
+pub give_keeps : (scripts : Scripts) (p : Parts) (new : Kept) (s block : ℕ) (t : Session) → IsKept scripts p → slice_get p.sessions s ≡ Some t → t.hand ≡ None → s < scripts.sessions → option_map (λ (b : ScriptBlock). b.session) (slice_get scripts.blocks block) ≡ Some s → closed (past_of p.journal) s ≡ false → past_of new ≡ Give s block ∷ past_of p.journal → new.room ≡ p.journal.room + 5
+    → IsKept scripts (record p { journal = new; sessions = slice_set p.sessions s (record t { hand = Some block; looked = false; wants = None }) })
+give_keeps scripts p new s block t kept there none known of_session open_so is room =
+    let past : Past = past_of p.journal in
+    let sound = kept.sound in
+    let outline = (kept.mirrors s t there).outline in
+    let idle : hand (past_of p.journal) s ≡ None = outline.hand_is ∙ none in
+    let comes = comes_give scripts (past_of p.journal) s (doing (past_of p.journal) s) sound.legal refl kept.clear.settled block known of_session open_so idle kept.clear.owed_is in
+    let others : (r : ℕ) → (s == r) ≡ false → doing (Give s block ∷ past_of p.journal) r ≡ doing (past_of p.journal) r = λ r other. others_stay scripts (past_of p.journal) s r sound.legal other (Give s block) refl in
+    let u : Session = record t { hand = Some block; looked = false; wants = None } in
+    let was : light_of t + of_step t.xact ≡ light_of (record t { hand = Some block; looked = false; wants = None }) = rw none (omega arith) in
+    let one = has_its_one scripts s block sound.single of_session in
     record {
-      between = rw is (record {
-        legal = (gives, between.legal);
-        xacts = between.xacts;
-        blocks = between.blocks;
-        owed_is = refl;
-        uncut = λ r. refl;
-        committed_is = between.committed_is;
-        fates = λ x le. between.fates x (omega arith);
-        fresh = λ r b e. by_session r b (s == r) refl e one;
-      });
-      sound = rw is (sound_more 0 (length (past_of old)) _ tables (omega arith) kept.sound);
-      count = length_set sessions s _ ∙ kept.count;
-      mirrors = rw is (mirrors_set (past_of old) (Give s block ∷ past_of old) sessions s _ kept.mirrors (slice_get_within sessions s t there) (record { hand_is = rw same refl; closed_is = open_so }) (λ r other. (rw other refl, refl)));
-      reserved = omega (arith, light_set sessions s t (record { hand = Some block; closed = false }) there, was, room, kept.reserved);
-      single = kept.single;
+      sound = record {
+        legal = rw is (comes, sound.legal);
+        count = length_set p.sessions s _ ∙ sound.count;
+        beyond = λ r le.
+            let from : length p.sessions ≤ r = omega (arith, length_set p.sessions s (record t { hand = Some block; looked = false; wants = None })) in
+            let other : (s == r) ≡ false = other_of r (omega (arith, slice_get_within p.sessions s t there)) in
+            rw (is, other) (sound.beyond r from);
+        stored = rw is sound.stored;
+        tells = rw is sound.tells;
+        marked = marked_set p.sessions s _ _ sound.marked (λ x has. sound.marked s x t there has);
+        table_count = sound.table_count;
+        tied = rw is (record { waits = sound.tied.waits; holds = sound.tied.holds; apart = sound.tied.apart });
+        queues = sound.queues;
+        reserved = omega (arith, light_set p.sessions s t (record t { hand = Some block; looked = false; wants = None }) there, was, step_light t.xact, room, sound.reserved);
+        single = sound.single;
+      };
+      wants_so = rw is (λ c waits. let other : (s == c.session) ≡ false = idle_asks scripts (past_of p.journal) s sound.legal kept.wants_so idle c waits in rw other (kept.wants_so c waits));
+      mirrors = rw is (mirrors_set scripts (past_of p.journal) (Give s block ∷ past_of p.journal) p.sessions s _ (λ r u other at. kept.mirrors r u at) others
+          (rw (own_moves (past_of p.journal) s (Give s block) refl) (record {
+            outline = record { hand_is = refl; xact_is = outline.xact_is; block_is = outline.block_is; closed_is = outline.closed_is; wants_is = refl };
+            underway = λ b e. let same : block ≡ b = cc in rw (← same) (record { none_done = refl; none_refused = refl; no_acts = refl; look_is = refl; only_creates = λ e. absurd cc; has_one = one.0; has_no_more = one.1 });
+          })));
+      clear = rw is (record { owed_is = refl; settled = kept.clear.settled });
     } where
-      by_session : (r b : ℕ) (test : Bool) → (s == r) ≡ test → hand (Give s block ∷ past_of old) r ≡ Some b → (option_map has_place (statement_of scripts (Some block) 0) ≡ Some true) × (statement_of scripts (Some block) 1 ≡ None) → IsFresh scripts (Give s block ∷ past_of old) r b
-      by_session r b true own e one =
-          let given : Some block ≡ Some b = rw own at e in
-          let block_is : block ≡ b = cc in
-          record { dones_is = rw own refl; none_refused = rw own refl; look_is = rw own refl; acts_is = rw own refl; has_one = rw (← block_is) one.0; has_no_more = rw (← block_is) one.1 }
-      by_session r b false other e one =
-          let fresh = kept.between.fresh r b (rw other at e) in
-          record { dones_is = rw other fresh.dones_is; none_refused = rw other fresh.none_refused; look_is = rw other fresh.look_is; acts_is = rw other fresh.acts_is; has_one = fresh.has_one; has_no_more = fresh.has_no_more }
+      other_of : (r : ℕ) → s < r → (s == r) ≡ false
+      other_of r lt = ne_eqb s r (λ e. omega arith)
 
 -- ---- a turn
 
--- a session with a step in hand: its statement is there, and its light entries have their places
-pub turn_may : (scripts : Scripts) (journal : Kept) (sessions : List Session) (tables : List StoredTable) (s block : ℕ) (t : Session) → IsKept scripts journal sessions tables → slice_get sessions s ≡ Some t → t.hand ≡ Some block → (option_map has_place (statement_of scripts (Some block) 0) ≡ Some true) × (4 ≤ journal.room) × (hand (past_of journal) s ≡ Some block)
-turn_may scripts journal sessions tables s block t kept there busy =
-    let in_hand_so : hand (past_of journal) s ≡ Some block = (kept.mirrors.each s t there).hand_is ∙ busy in
-    let four : 4 ≤ light_of t = rw busy (omega arith) in
-    ((kept.between.fresh s block in_hand_so).has_one, omega (arith, four, light_at sessions s t there, kept.reserved), in_hand_so)
-
-module _ (scripts : Scripts) (old new : Kept) (sessions : List Session) (tables after : List StoredTable) (s block : ℕ) (t : Session) (statement : Statement) (ended : Ended) (kept : IsKept scripts old sessions tables) (there : slice_get sessions s ≡ Some t) (busy : t.hand ≡ Some block) (is : statement_of scripts (Some block) 0 ≡ Some statement) (plain : has_place statement ≡ true) (step : IsAfter ended s statement (past_of old) (past_of new) tables after) where
-  in_hand_then : hand (past_of old) s ≡ Some block
-  in_hand_then = (kept.mirrors.each s t there).hand_is ∙ busy
-
-  pub turn_keeps : old.room ≤ new.room + 4 → IsKept scripts new (slice_set sessions s (record { hand = None; closed = t.closed })) after
-  turn_keeps room =
-      let leads = turn_leads scripts (past_of old) s block (tables_of tables) kept.between statement in_hand_then is plain in
-      let done_so = did (past_of old) s statement (tables_of tables) (kept.between.fresh s block in_hand_then).none_refused in
-      let of_old : light_of t ≡ light_of (record { hand = None; closed = t.closed }) + 4 = rw busy (omega arith) in
-      record {
-        between = rw (step.journal, step.tables) leads.0;
-        sound = step.sound;
-        count = length_set sessions s _ ∙ kept.count;
-        mirrors = rw step.journal (mirrors_set (past_of old) _ sessions s _ kept.mirrors (slice_get_within sessions s t there) (record { hand_is = done_so.ended; closed_is = done_so.closed_same s ∙ (kept.mirrors.each s t there).closed_is }) (λ r other. (done_so.others r other, done_so.closed_same r)));
-        reserved = omega (arith, light_set sessions s t (record { hand = None; closed = t.closed }) there, of_old, room, kept.reserved);
-        single = kept.single;
-      }
-
-  pub turn_went : WentOn (record { scripts = scripts; past = past_of old }) (record { scripts = scripts; past = past_of new }) s (length (past_of old)) (length (past_of new)) (is_refused ended)
-  turn_went =
-      let leads = turn_leads scripts (past_of old) s block (tables_of tables) kept.between statement in_hand_then is plain in
-      let done_so = did (past_of old) s statement (tables_of tables) (kept.between.fresh s block in_hand_then).none_refused in
-      rw (step.journal, step.ended_so) (record {
+pub turn_went : (scripts : Scripts) (p : Parts) (after : Past) (s : ℕ) (t : Session) (refused : Bool) → IsKept scripts p → slice_get p.sessions s ≡ Some t → is_some t.hand ≡ true → is_held_up p.sessions t.wants ≡ false
+    → Went scripts s (past_of p.journal) after refused (driver (past_of p.journal)) (IsLeast (past_of p.journal) s)
+    → WentOn (record { scripts = scripts; past = past_of p.journal }) (record { scripts = scripts; past = after }) s (length (past_of p.journal)) (length after) refused
+turn_went scripts p after s t refused kept there busy free went =
+    let block = is_busy scripts p kept s t there busy in
+    record {
+      goes_on = record {
         scripts = refl;
-        in_step = rw in_hand_then refl;
-        from_is = refl;
-        to_is = refl;
-        some = done_so.more;
-        extends = done_so.extends;
-        ended = done_so.ended;
-        told = done_so.told;
-        others = done_so.others;
-        driven = done_so.driven;
-        closed_same = done_so.closed_same;
-        failed = done_so.failed;
-        in_turn = leads.1;
-      })
-
--- a turn for which there was no memory
-pub turn_lacks : (scripts : Scripts) (old new : Kept) (sessions : List Session) (tables after : List StoredTable) → IsKept scripts old sessions tables → IsBefore (past_of old) (past_of new) tables after → old.room ≤ new.room → IsKept scripts new sessions after
-turn_lacks scripts old new sessions tables after kept before room = record {
-  between = rw (before.journal, before.tables) kept.between;
-  sound = rw (before.journal, before.tables) kept.sound;
-  count = kept.count;
-  mirrors = rw before.journal kept.mirrors;
-  reserved = omega (arith, room, kept.reserved);
-  single = kept.single;
-}
+        in_step = rw block.2 refl;
+        extends = went.extends;
+        own = went.own;
+        others = went.hands;
+        closed_same = went.closed_same;
+        failed = went.failed;
+      };
+      not_blocked = sym (held_up_is scripts p kept s t there) ∙ free;
+      refused_ends = went.refused_ends;
+      from_is = refl;
+      to_is = refl;
+      some = went.more;
+      one_row = went.one_row;
+      driven = went.driven;
+      in_turn = went.in_turn;
+    }
 
 -- ---- a step is cancelled
 
-pub cancel_keeps : (scripts : Scripts) (old new : Kept) (sessions : List Session) (tables : List StoredTable) (s block : ℕ) (t : Session) → IsKept scripts old sessions tables → slice_get sessions s ≡ Some t → t.hand ≡ Some block → past_of new ≡ End s ∷ Refuse s (causes.Cancelled (length (past_of old))) ∷ Cancel s ∷ past_of old → new.room + 3 ≡ old.room → IsKept scripts new (slice_set sessions s (record { hand = None; closed = t.closed })) tables
-cancel_keeps scripts old new sessions tables s block t kept there busy is room =
-    let between = kept.between in
-    let same : (s == s) ≡ true = if_same s in
-    let in_hand_so : hand (past_of old) s ≡ Some block = (kept.mirrors.each s t there).hand_is ∙ busy in
-    let cancels : MayCome scripts (past_of old) (Cancel s) = record {
-      rule = record { in_step = rw in_hand_so refl };
-      follows = rw between.owed_is tt;
-      alone = tt;
-    } in
-    let refuses : MayCome scripts (Cancel s ∷ past_of old) (Refuse s (causes.Cancelled (length (past_of old)))) = record {
-      rule = record { first_true = rw same refl };
-      follows = refl;
-      alone = tt;
-    } in
-    let ends : MayCome scripts (Refuse s (causes.Cancelled (length (past_of old))) ∷ Cancel s ∷ past_of old) (End s) = record {
-      rule = record { in_step = rw in_hand_so refl; over = inr (rw same refl); none_implicit = rw (block_refused (s == s) (suc (length (past_of old))) (block_state (past_of old) s) (between.blocks s), between.xacts s) refl };
-      follows = rw (between.xacts s) refl;
-      alone = tt;
-    } in
-    let of_old : light_of t ≡ light_of (record { hand = None; closed = t.closed }) + 4 = rw busy (omega arith) in
-    record {
-      between = rw is (record {
-        legal = (ends, (refuses, (cancels, between.legal)));
-        xacts = between.xacts;
-        blocks = λ r. block_refused (s == r) (suc (length (past_of old))) (block_state (past_of old) r) (between.blocks r);
-        owed_is = refl;
-        uncut = λ r. refl;
-        committed_is = between.committed_is;
-        fates = λ x le. between.fates x (omega arith);
-        fresh = λ r b e.
-            let still = still_in_hand (s == r) (hand (past_of old) r) b e in
-            let other : (s == r) ≡ false = still.0 in
-            let fresh = between.fresh r b still.1 in
-            record { dones_is = fresh.dones_is; none_refused = rw other fresh.none_refused; look_is = fresh.look_is; acts_is = fresh.acts_is; has_one = fresh.has_one; has_no_more = fresh.has_no_more };
-      });
-      sound = rw is (sound_more 0 (length (past_of old)) _ tables (omega arith) kept.sound);
-      count = length_set sessions s _ ∙ kept.count;
-      mirrors = rw is (mirrors_set (past_of old) _ sessions s _ kept.mirrors (slice_get_within sessions s t there) (record { hand_is = rw same refl; closed_is = (kept.mirrors.each s t there).closed_is }) (λ r other. (rw other refl, refl)));
-      reserved = omega (arith, light_set sessions s t (record { hand = None; closed = t.closed }) there, of_old, room, kept.reserved);
-      single = kept.single;
-    }
+module _ (scripts : Scripts) (p : Parts) (s block : ℕ) (t : Session) (kept : IsKept scripts p) (there : slice_get p.sessions s ≡ Some t) (busy : t.hand ≡ Some block) where
+  cancel_light : 4 ≤ light p.sessions
+  cancel_light =
+      let own : 4 ≤ of_xact t.xact + of_step t.xact = least t.xact in
+      let all : light_of t ≡ cond t.closed 0 1 + (of_xact t.xact + of_step t.xact) = rw busy refl in
+      omega (arith, light_at p.sessions s t there) where
+        least : (o : Option ℕ) → 4 ≤ of_xact o + of_step o
+        least None = omega arith
+        least (Some x) = omega arith
+
+  -- the Cancel has its place
+  pub cancel_may : 0 < p.journal.room
+  cancel_may = omega (arith, cancel_light, kept.sound.reserved)
+
+  module _ (new : Kept) (is : past_of new ≡ Cancel s ∷ past_of p.journal) where
+    pub cancel_amid : new.room + 1 ≡ p.journal.room → IsAmid scripts (record p { journal = new }) s 1
+    cancel_amid room =
+        let in_hand_so : hand (past_of p.journal) s ≡ Some block = (kept.mirrors s t there).outline.hand_is ∙ busy in
+        let comes = comes_cancel scripts (past_of p.journal) s (doing (past_of p.journal) s) kept.sound.legal refl kept.clear.settled block in_hand_so kept.clear.owed_is in
+        amid_notes scripts p (record p { journal = new }) s 0 t (Cancel s) (amid_begins scripts p s kept) there (still_cancel s) refl comes is room refl refl refl refl
+
+    pub cancel_refused : CanBeRefused scripts (past_of new) s t (causes.Cancelled (length (past_of p.journal)))
+    cancel_refused =
+        let outline = (kept.mirrors s t there).outline in
+        rw is (record {
+          hand_is = outline.hand_is;
+          xact_is = outline.xact_is;
+          block_is = outline.block_is;
+          closed_is = outline.closed_is;
+          in_step = rw busy refl;
+          first_true = rw (if_same s) refl;
+          settled = kept.clear.settled;
+          follows = refl;
+        })
+
+    module _ (after : Past) (exact : IsRefused (past_of new) after s t.xact (causes.Cancelled (length (past_of p.journal))))
+        (went : Went scripts s (past_of new) after true (driver (past_of new)) (IsTurn (owed scripts (past_of new)) (past_of new) s)) where
+      pub cancel_went : IsCancelled (record { scripts = scripts; past = past_of p.journal }) (record { scripts = scripts; past = after }) s
+      cancel_went =
+          let in_hand_so : hand (past_of p.journal) s ≡ Some block = (kept.mirrors s t there).outline.hand_is ∙ busy in
+          let did = rw is at went in
+          let ends = rw is at exact in
+          record {
+            goes_on = record {
+              scripts = refl;
+              in_step = rw in_hand_so refl;
+              extends = extends_on s (past_of p.journal) (Cancel s ∷ past_of p.journal) after (extends_by s (past_of p.journal) (Cancel s) (inl refl)) did.extends;
+              own = did.own;
+              others = did.hands;
+              closed_same = did.closed_same;
+              failed = did.failed;
+            };
+            aborted = ends.aborted;
+            is_aborted = rw (kept.mirrors s t there).outline.xact_is ends.is_aborted;
+            is = ends.is;
+            ended = rw (ends.is, if_same s) refl;
+            driven = did.driven;
+            in_turn = λ idle d. did.in_turn tt (idle, d);
+          }
 
 -- ---- a session is closed
 
-pub close_keeps : (scripts : Scripts) (old new : Kept) (sessions : List Session) (tables : List StoredTable) (s : ℕ) (t : Session) → IsKept scripts old sessions tables → slice_get sessions s ≡ Some t → s < scripts.sessions → hand (past_of old) s ≡ None → closed (past_of old) s ≡ false → past_of new ≡ Close s ∷ past_of old → new.room + 1 ≡ old.room → IsKept scripts new (slice_set sessions s (record { hand = None; closed = true })) tables
-close_keeps scripts old new sessions tables s t kept there known idle open_so is room =
-    let between = kept.between in
-    let same : (s == s) ≡ true = if_same s in
-    let mirror = kept.mirrors.each s t there in
-    let none : t.hand ≡ None = sym mirror.hand_is ∙ idle in
-    let open_kept : t.closed ≡ false = sym mirror.closed_is ∙ open_so in
-    let comes : MayCome scripts (past_of old) (Close s) = record {
-      rule = record { known = known; idle = idle; not_closed = open_so; none_open = between.xacts s };
-      follows = rw between.owed_is tt;
-      alone = tt;
-    } in
-    let was : light_of t ≡ 1 = rw (none, open_kept) refl in
-    record {
-      between = rw is (record {
-        legal = (comes, between.legal);
-        xacts = between.xacts;
-        blocks = between.blocks;
-        owed_is = refl;
-        uncut = λ r. refl;
-        committed_is = between.committed_is;
-        fates = λ x le. between.fates x (omega arith);
-        fresh = λ r b e.
-            let fresh = between.fresh r b e in
-            record { dones_is = fresh.dones_is; none_refused = fresh.none_refused; look_is = fresh.look_is; acts_is = fresh.acts_is; has_one = fresh.has_one; has_no_more = fresh.has_no_more };
-      });
-      sound = rw is (sound_more 0 (length (past_of old)) _ tables (omega arith) kept.sound);
-      count = length_set sessions s _ ∙ kept.count;
-      mirrors = rw is (mirrors_set (past_of old) _ sessions s _ kept.mirrors (slice_get_within sessions s t there) (record { hand_is = idle; closed_is = rw same refl }) (λ r other. (refl, rw other refl)));
-      reserved = omega (arith, light_set sessions s t (record { hand = None; closed = true }) there, was, room, kept.reserved);
-      single = kept.single;
-    }
+module _ (scripts : Scripts) (p : Parts) (s : ℕ) (t : Session) (kept : IsKept scripts p) (there : slice_get p.sessions s ≡ Some t) (idle : hand (past_of p.journal) s ≡ None) (open_so : closed (past_of p.journal) s ≡ false) where
+  none_in_hand : t.hand ≡ None
+  none_in_hand = sym (kept.mirrors s t there).outline.hand_is ∙ idle
 
--- an open session's Close has its place
-pub close_may : (scripts : Scripts) (journal : Kept) (sessions : List Session) (tables : List StoredTable) (s : ℕ) (t : Session) → IsKept scripts journal sessions tables → slice_get sessions s ≡ Some t → closed (past_of journal) s ≡ false → 0 < journal.room
-close_may scripts journal sessions tables s t kept there open_so =
-    let open_kept : t.closed ≡ false = sym (kept.mirrors.each s t there).closed_is ∙ open_so in
-    let one : 1 ≤ light_of t = rw open_kept (omega arith) in
-    omega (arith, one, light_at sessions s t there, kept.reserved)
+  idle_light : light_of t ≡ 1 + of_xact t.xact
+  idle_light =
+      let not_closed : t.closed ≡ false = sym (kept.mirrors s t there).outline.closed_is ∙ open_so in
+      rw (none_in_hand, not_closed) (omega arith)
 
--- ---- one of the sessions
+  -- an Abort has its place
+  pub abort_may : length p.locks.locks.waiting + 1 ≤ p.journal.room
+  abort_may = omega (arith, idle_light, light_at p.sessions s t there, kept.sound.reserved)
 
-pub got : (scripts : Scripts) (journal : Kept) (sessions : List Session) (tables : List StoredTable) (s : ℕ) (t : Session) → IsKept scripts journal sessions tables → s < scripts.sessions → t ≡ get_or sessions s t → slice_get sessions s ≡ Some t
-got scripts journal sessions tables s t kept known is = slice_get_read sessions scripts.sessions s t (sym kept.count) known is
+  -- it has none open
+  pub left_none : t.xact ≡ None → HasLeft scripts p p s t
+  left_none none =
+      let was = (kept.mirrors s t there).outline in
+      record {
+        after = t;
+        there = there;
+        light_is = idle_light;
+        amid = rw none (amid_begins scripts p s kept);
+        settled = kept.clear.settled;
+        follows = rw kept.clear.owed_is tt;
+        is_aborted = rw none (record { grants = []; are_grants = tt; is = refl; none_open = λ e. refl });
+        none_open = was.xact_is ∙ none;
+        block_is = was.block_is;
+        extends = extends_none s (past_of p.journal);
+        hands = λ r. refl;
+        closed_same = λ r. refl;
+        driven_so = refl;
+        failed = λ spec. refl;
+        in_turn = λ driven. driven;
+      }
 
-pub there_is : (scripts : Scripts) (journal : Kept) (sessions : List Session) (tables : List StoredTable) (s : ℕ) → IsKept scripts journal sessions tables → s < scripts.sessions → (t : Session) × (slice_get sessions s ≡ Some t)
-there_is scripts journal sessions tables s kept known = by_place (slice_get sessions s) refl where
-  by_place : (o : Option Session) → slice_get sessions s ≡ o → (t : Session) × (slice_get sessions s ≡ Some t)
-  by_place (Some t) is = (t, is)
-  by_place None is = absurd (let n : length sessions ≡ scripts.sessions = kept.count in let le : length sessions ≤ s = past_end sessions s is in omega arith)
+  -- its transaction is aborted
+  module _ (q : Parts) (x : ℕ) (own : t.xact ≡ Some x) (hands_on : HandsOn (released p.locks.locks s) q.locks.locks) (room : q.journal.room + length q.locks.locks.granted + 1 ≡ p.journal.room) (woke : q.sessions ≡ woken q.locks.locks.granted p.sessions) (tables_same : q.tables ≡ p.tables) (count_same : q.locks.sessions ≡ p.locks.sessions) (settled : IsSettled q.locks.locks) (noted : past_of q.journal ≡ locked_by (xact_in p.sessions) q.locks.locks.granted (Abort x ∷ past_of p.journal)) (marked : q.committed ≡ p.committed) where
+    abbrev old : Past
+    old = past_of p.journal
 
--- whether it has a step in hand
-some_of : (o : Option ℕ) → is_some o ≡ true → (block : ℕ) × (o ≡ Some block)
-some_of None e = absurd cc
-some_of (Some block) e = (block, refl)
+    by_own : IsXact old s x
+    by_own =
+        let open_xact : xact_of old s ≡ Some x = (kept.mirrors s t there).outline.xact_is ∙ own in
+        record { session = (xact_is scripts old s x kept.sound.legal open_xact).own; open_xact = open_xact }
 
-pub none_of : (o : Option ℕ) → is_some o ≡ false → o ≡ None
-none_of None e = refl
-none_of (Some block) e = absurd cc
+    aborts : MayCome scripts old (Abort x)
+    aborts = comes_abort scripts old s (doing old s) kept.sound.legal refl kept.clear.settled x by_own (inl (inr idle)) (rw kept.clear.owed_is tt)
 
-module _ (scripts : Scripts) (journal : Kept) (sessions : List Session) (tables : List StoredTable) (s : ℕ) (t : Session) (kept : IsKept scripts journal sessions tables) (there : slice_get sessions s ≡ Some t) where
-  pub is_busy : is_some t.hand ≡ true → (block : ℕ) × (t.hand ≡ Some block) × (hand (past_of journal) s ≡ Some block)
-  is_busy e = let block = some_of t.hand e in (block.0, block.1, (kept.mirrors.each s t there).hand_is ∙ block.1)
+    come : HaveCome scripts (xact_in p.sessions) q.locks.locks.granted (Abort x ∷ old) q.locks.locks
+    come = abort_comes scripts p q s 0 x t (amid_begins scripts p s kept) there by_own hands_on aborts
 
-  pub is_idle : is_some t.hand ≡ false → hand (past_of journal) s ≡ None
-  is_idle e = (kept.mirrors.each s t there).hand_is ∙ none_of t.hand e
+    leaves : LeavesSo scripts (Abort x ∷ old) (locked_by (xact_in p.sessions) q.locks.locks.granted (Abort x ∷ old))
+    leaves = leaves_so scripts (xact_in p.sessions) q.locks.locks.granted (Abort x ∷ old)
+
+    amid_then : IsAmid scripts q s (0 + 1)
+    amid_then = amid_aborts scripts p q s 0 x t (amid_begins scripts p s kept) there by_own hands_on room woke tables_same count_same settled aborts noted marked
+
+    pub left_some : HasLeft scripts p q s t
+    left_some =
+        let gone : xact_of (Abort x ∷ old) s ≡ None = rw (by_own.open_xact, if_same x) refl in
+        record {
+          after = calmed (is_granted s q.locks.locks.granted) t;
+          there = rw woke (woken_get q.locks.locks.granted p.sessions s ∙ rw there refl);
+          light_is = idle_light;
+          amid = rw own amid_then;
+          settled = rw noted (settled_then scripts (Abort x ∷ old) (xact_in p.sessions) q.locks.locks come settled);
+          follows = rw (noted, leaves.owes, by_own.session, idle) refl;
+          is_aborted = rw own (record { grants = locks_of (xact_in p.sessions) q.locks.locks.granted; are_grants = come.are_grants; is = noted ∙ locked_is (xact_in p.sessions) q.locks.locks.granted (Abort x ∷ old); none_open = λ e. absurd cc });
+          none_open = rw noted (leaves.xacts s ∙ gone);
+          block_is = rw noted (leaves.blocks s ∙ (kept.mirrors s t there).outline.block_is);
+          extends = extends_on s old (Abort x ∷ old) (past_of q.journal) (extends_by s old (Abort x) (inl by_own.session)) (rw noted (extends_granted scripts s (Abort x ∷ old) (xact_in p.sessions) q.locks.locks come));
+          hands = λ r. rw noted (leaves.hands r);
+          closed_same = λ r. rw noted (leaves.closed_same r);
+          driven_so = rw noted leaves.driven_so;
+          failed = λ spec. rw noted (leaves.failed spec);
+          in_turn = λ driven. rw noted (driven_then scripts (Abort x ∷ old) (xact_in p.sessions) q.locks.locks come (rw (by_own.session, idle) tt, driven));
+        }
+
+  module _ (q : Parts) (left : HasLeft scripts p q s t) where
+    -- the Close has its place
+    pub close_may : 0 < q.journal.room
+    close_may = omega (arith, left.light_is, light_at q.sessions s left.after left.there, left.amid.sound.reserved)
+
+    pub close_known : s < length q.sessions
+    close_known = slice_get_within q.sessions s left.after left.there
+
+    abbrev last : Past
+    last = past_of q.journal
+
+    abbrev shut : Session
+    shut = record t { xact = None; closed = true }
+
+    wants_none : t.wants ≡ None
+    wants_none = by_want t.wants (kept.mirrors s t there).outline.wants_is where
+      by_want : (o : Option Want) → wanted_by (past_of p.journal) s ≡ o → o ≡ None
+      by_want None is = refl
+      by_want (Some want) is =
+          let busy : is_some (hand (past_of p.journal) s) ≡ true = wanting_busy scripts (past_of p.journal) s want kept.sound.legal is in
+          absurd (let wrong : false ≡ true = rw idle at busy in cc)
+
+    closes : s < scripts.sessions → MayCome scripts last (Close s)
+    closes known = comes_close scripts last s (doing last s) left.amid.sound.legal refl left.settled known (left.hands s ∙ idle) (left.closed_same s ∙ open_so) left.none_open left.follows
+
+    shut_so : IsMirror scripts (doing (Close s ∷ last) s) shut
+    shut_so = rw (own_moves last s (Close s) refl) (record {
+      outline = record { hand_is = left.hands s ∙ (kept.mirrors s t there).outline.hand_is; xact_is = left.none_open; block_is = left.block_is; closed_is = refl; wants_is = sym wants_none };
+      underway = λ block is. absurd (let wrong : ◌≡◌ {A = Option ℕ} None (Some block) = sym none_in_hand ∙ is in cc);
+    })
+
+    pub close_keeps : (new : Kept) → s < scripts.sessions → past_of new ≡ Close s ∷ past_of q.journal → new.room + 1 ≡ q.journal.room → IsKept scripts (record q { journal = new; sessions = slice_set q.sessions s (record t { xact = None; closed = true }) })
+    close_keeps new known noted room =
+        let fits : light_of (record t { xact = None; closed = true }) + of_xact t.xact + 1 ≤ light_of left.after = rw none_in_hand (omega (arith, left.light_is)) in
+        amid_stops scripts q (record q { journal = new; sessions = slice_set q.sessions s (record t { xact = None; closed = true }) }) s (of_xact t.xact) left.after shut (Close s) left.amid left.there (still_close s) refl (closes known)
+        (unasked_idle scripts last s left.amid.sound.legal left.none_open) left.settled refl shut_so (λ x e. absurd cc) fits noted room refl refl refl refl
+
+    pub close_went : (new : Past) → new ≡ Close s ∷ past_of q.journal → IsClosed (record { scripts = scripts; past = past_of p.journal }) (record { scripts = scripts; past = new }) s
+    close_went new noted = rw noted (record {
+      scripts = refl;
+      aborted = last;
+      is_aborted = rw (kept.mirrors s t there).outline.xact_is left.is_aborted;
+      is = refl;
+      extends = extends_on s (past_of p.journal) last (Close s ∷ last) left.extends (extends_by s last (Close s) (inl refl));
+      hands = left.hands;
+      closed_now = λ r. rw (left.closed_same r) refl;
+      failed = left.failed;
+      driven = rw left.driven_so refl;
+      in_turn = λ driven. (tt, left.in_turn driven);
+    })

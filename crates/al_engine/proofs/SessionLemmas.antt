@@ -1,15 +1,37 @@
 -- Laws of the sessions that are kept.
-use Rattle.std.proofs.Common.{◌≡◌, ℕ, zero, suc, ◌+◌, ◌<◌, ◌≤◌, List, [], ◌∷◌, length, refl, sym, ap, true, false, Option, Some, None, arith, ◌∙◌, inl, inr, slice_get, slice_set, replicate, get_or}
-use Rattle.std.specs.Prelude.{◌==◌, ◌≢◌, ◌⊎◌, IsSome, is_some, eqb, IfSome, IfNone}
-use Rattle.std.proofs.lemmas.Bool.{ne_eqb}
-use Rattle.std.proofs.lemmas.Bool.Decides.{eqb_tells}
-use Rattle.std.proofs.lemmas.Option.{slice_get_within, slice_get_read}
-use Rattle.al_history.specs.Past.{Past}
-use Rattle.al_history.specs.Hand.{hand, closed}
+use Rattle.std.proofs.Common.{◌≡◌, ℕ, zero, suc, ◌+◌, ◌<◌, ◌≤◌, List, [], ◌∷◌, length, refl, sym, ap, cond, true, false, Bool, Option, Some, None, arith, ◌∙◌, inl, inr, slice_get, slice_set, replicate, get_or}
+use Rattle.std.specs.Prelude.{◌==◌, ◌≢◌, ◌⊎◌, ◌&&◌, ◌||◌, not, is_some, IfSome, IfNone, option_map, option_and_then}
+use Rattle.std.proofs.lemmas.Bool.{eqb-true, ne_eqb}
+use Rattle.std.proofs.lemmas.Option.{slice_get_within}
+use Rattle.al_history.specs.declared.entry.Entry.TheVariants.{Give, Start, Wait, Commit, Abort, End}
+use Rattle.al_history.specs.declared.entry.Want.{Want}
+use Rattle.al_history.specs.declared.entry.Want.TheVariants as wants
+use Rattle.al_history.specs.declared.statement.Statement.{Statement}
+use Rattle.al_history.specs.declared.statement.Statement.TheVariants as statements
+use Rattle.al_history.specs.declared.statement.Scripts.{Scripts}
+use Rattle.al_history.specs.Past.{Past, past_of}
+use Rattle.al_history.specs.Fate.{fate, is_that}
+use Rattle.al_history.specs.Hand.{hand, dones, in_hand, statement_of, xact_of, session_of, block_state}
+use Rattle.al_history.specs.Locks.{Claim, waiting, is_held}
+use Rattle.al_history.specs.Made.{made_by}
+use Rattle.al_history.specs.Need.{makers, first_open, name_taker}
+use Rattle.al_history.specs.Rules.{starts}
+use Rattle.al_history.specs.Waits.{wanted_by, is_open, is_blocked, can_go_on}
 use Rattle.al_history.specs.Whole.{IsIdle, IsLeast}
+use Rattle.al_history.specs.Legal.{Legal}
+use Rattle.al_history.proofs.Doings.{doing}
+use Rattle.al_history.proofs.Xacts.{is_start}
+use Rattle.al_history.proofs.Makers.{Each, Began}
 use Rattle.al_engine.specs.declared.sessions.Session.{Session}
 use Rattle.al_engine.specs.Ran.{IsReady}
-use Rattle.al_engine.specs.Sessions.{idle_session, AreIdle, IsFirstBusy, IsMirror, AreMirrors, light_of, light}
+use Rattle.al_engine.specs.LockTie.{WantsSo}
+use Rattle.al_engine.specs.Sessions.{IsMirror, idle_session, is_open_in, is_held_up, can_go, AreStuck, IsFirstReady, xacts_in, light_of, light}
+use Rattle.al_engine.specs.Stored.{is_among}
+use Rattle.al_engine.specs.Kept.{Parts, IsKept}
+use Rattle.al_engine.proofs.StoredLemmas.{makers_began_of, among_open}
+use Rattle.al_engine.proofs.Wanted.{blocked_by_lock}
+
+-- ---- light entries
 
 -- what is reserved for one session is part of what is reserved for all
 pub light_at : (sessions : List Session) (s : ℕ) (t : Session) → slice_get sessions s ≡ Some t → light_of t ≤ light sessions
@@ -27,90 +49,224 @@ pub light_idle : (count : ℕ) → light (replicate count idle_session) ≡ coun
 light_idle zero = refl
 light_idle (suc count) = omega (arith, light_idle count)
 
+-- ---- one of the sessions
+
 -- a session after one has changed is the changed one, or another as it was
-got_set : (sessions : List Session) (s r : ℕ) (u t : Session) → slice_get (slice_set sessions s u) r ≡ Some t → ((s ≡ r) × (u ≡ t)) ⊎ ((s ≢ r) × (slice_get sessions r ≡ Some t))
-got_set [] s r u t is = absurd cc
-got_set (v ∷ sessions) zero zero u t is = inl (refl, cc)
-got_set (v ∷ sessions) zero (suc r) u t is = inr ((λ (e : zero ≡ suc r). omega arith), is)
-got_set (v ∷ sessions) (suc s) zero u t is = inr ((λ (e : suc s ≡ zero). omega arith), is)
-got_set (v ∷ sessions) (suc s) (suc r) u t is = one_on (got_set sessions s r u t is) where
-  one_on : ((s ≡ r) × (u ≡ t)) ⊎ ((s ≢ r) × (slice_get sessions r ≡ Some t)) → ((suc s ≡ suc r) × (u ≡ t)) ⊎ ((suc s ≢ suc r) × (slice_get sessions r ≡ Some t))
-  one_on (inl e) = inl (ap suc e.0, e.1)
-  one_on (inr e) = inr ((λ (f : suc s ≡ suc r). let apart : s ≢ r = e.0 in apart (omega arith)), e.1)
+pub got_set : (sessions : List Session) (s r : ℕ) (u t : Session) → slice_get (slice_set sessions s u) r ≡ Some t → ((s ≡ r) × (u ≡ t)) ⊎ (((s == r) ≡ false) × (slice_get sessions r ≡ Some t))
+got_set sessions s r u t is = by_case (got sessions s r is) where
+  got : (sessions : List Session) (s r : ℕ) → slice_get (slice_set sessions s u) r ≡ Some t → ((s ≡ r) × (u ≡ t)) ⊎ ((s ≢ r) × (slice_get sessions r ≡ Some t))
+  got [] s r is = absurd cc
+  got (v ∷ sessions) zero zero is = inl (refl, cc)
+  got (v ∷ sessions) zero (suc r) is = inr ((λ (e : zero ≡ suc r). omega arith), is)
+  got (v ∷ sessions) (suc s) zero is = inr ((λ (e : suc s ≡ zero). omega arith), is)
+  got (v ∷ sessions) (suc s) (suc r) is = one_on s r (got sessions s r is) where
+    one_on : (s r : ℕ) → ((s ≡ r) × (u ≡ t)) ⊎ ((s ≢ r) × (slice_get sessions r ≡ Some t)) → ((suc s ≡ suc r) × (u ≡ t)) ⊎ ((suc s ≢ suc r) × (slice_get sessions r ≡ Some t))
+    one_on s r (inl e) = inl (ap suc e.0, e.1)
+    one_on s r (inr e) = inr ((λ (f : suc s ≡ suc r). let apart : s ≢ r = e.0 in apart (omega arith)), e.1)
+
+  by_case : ((s ≡ r) × (u ≡ t)) ⊎ ((s ≢ r) × (slice_get sessions r ≡ Some t)) → ((s ≡ r) × (u ≡ t)) ⊎ (((s == r) ≡ false) × (slice_get sessions r ≡ Some t))
+  by_case (inl e) = inl e
+  by_case (inr e) = inr (ne_eqb s r e.0, e.1)
 
 pub length_set : (sessions : List Session) (s : ℕ) (u : Session) → length (slice_set sessions s u) ≡ length sessions
 length_set [] s u = refl
 length_set (v ∷ sessions) zero u = refl
 length_set (v ∷ sessions) (suc s) u = ap suc (length_set sessions s u)
 
--- one session has changed, in what is kept as in the journal
-pub mirrors_set : (past after : Past) (sessions : List Session) (s : ℕ) (u : Session) → AreMirrors past sessions → s < length sessions → IsMirror after s u → ((r : ℕ) → (s == r) ≡ false → (hand after r ≡ hand past r) × (closed after r ≡ closed past r)) → AreMirrors after (slice_set sessions s u)
-mirrors_set past after sessions s u mirrors lt own others = record {
-  each = λ r t is. by_place r t (got_set sessions s r u t is);
-  beyond = λ r le.
-      let from : length sessions ≤ r = omega (arith, length_set sessions s u) in
-      let other : (s == r) ≡ false = ne_eqb s r (λ e. omega arith) in
-      (others r other).0 ∙ mirrors.beyond r from;
-} where
-  by_place : (r : ℕ) (t : Session) → ((s ≡ r) × (u ≡ t)) ⊎ ((s ≢ r) × (slice_get sessions r ≡ Some t)) → IsMirror after r t
-  by_place r t (inl e) = rw (← e.0, ← e.1) own
-  by_place r t (inr e) =
-      let other : (s == r) ≡ false = ne_eqb s r e.0 in
-      let so = others r other in
-      let was = mirrors.each r t e.1 in
-      record { hand_is = so.0 ∙ was.hand_is; closed_is = so.1 ∙ was.closed_is }
-
-got_idle : (count s : ℕ) (t : Session) → slice_get (replicate count idle_session) s ≡ Some t → t ≡ idle_session
+pub got_idle : (count s : ℕ) (t : Session) → slice_get (replicate count idle_session) s ≡ Some t → t ≡ idle_session
 got_idle zero s t is = absurd cc
 got_idle (suc count) zero t is = sym cc
 got_idle (suc count) (suc s) t is = got_idle count s t is
 
-pub mirrors_at_first : (count : ℕ) → AreMirrors [] (replicate count idle_session)
-mirrors_at_first count = record {
-  each = λ s t is. let e : t ≡ idle_session = got_idle count s t is in rw e (record { hand_is = refl; closed_is = refl });
-  beyond = λ s le. refl;
-}
-
-pub past_end : (sessions : List Session) (r : ℕ) → slice_get sessions r ≡ None → length sessions ≤ r
-past_end [] r is = omega arith
+pub past_end : (sessions : List Session) (s : ℕ) → slice_get sessions s ≡ None → length sessions ≤ s
+past_end [] s is = omega arith
 past_end (t ∷ sessions) zero is = absurd cc
-past_end (t ∷ sessions) (suc r) is = omega (arith, past_end sessions r is)
+past_end (t ∷ sessions) (suc s) is = omega (arith, past_end sessions s is)
 
--- the session that is ready
-not_some : (o : Option ℕ) → o ≡ None → is_some o ≡ false
-not_some o e = rw e refl
+-- ---- who has a step in hand or a transaction is a session of the run
 
-pub is_ready : (past : Past) (sessions : List Session) (at : ℕ) → AreMirrors past sessions → IsFirstBusy sessions at → IsLeast past at
-is_ready past sessions at mirrors first = (rw (mirrors.each at first.session first.there).hand_is first.busy, λ r lt. below r lt (slice_get sessions r) refl) where
-  below : (r : ℕ) → r < at → (o : Option Session) → slice_get sessions r ≡ o → is_some (hand past r) ≡ false
-  below r lt (Some t) is = not_some _ ((mirrors.each r t is).hand_is ∙ first.before r t lt is)
-  below r lt None is = absurd (let within : at < length sessions = slice_get_within sessions at first.session first.there in let past_end : length sessions ≤ r = past_end sessions r is in omega arith)
+pub hand_known : (scripts : Scripts) (past : Past) (s block : ℕ) → Legal scripts past → hand past s ≡ Some block → s < scripts.sessions
+hand_known scripts [] s block legal is = absurd cc
+hand_known scripts (Give r given ∷ past) s block legal is = by_test (r == s) refl is (λ h. hand_known scripts past s block legal.1 h) where
+  by_test : (b : Bool) → (r == s) ≡ b → cond b (Some given) (hand past s) ≡ Some block → (hand past s ≡ Some block → s < scripts.sessions) → s < scripts.sessions
+  by_test true own is more = rw (← eqb-true r s own) legal.0.rule.known
+  by_test false own is more = more is
+hand_known scripts (End r ∷ past) s block legal is = by_test (r == s) is (λ h. hand_known scripts past s block legal.1 h) where
+  by_test : (b : Bool) → cond b None (hand past s) ≡ Some block → (hand past s ≡ Some block → s < scripts.sessions) → s < scripts.sessions
+  by_test true is more = absurd cc
+  by_test false is more = more is
+hand_known scripts (e ∷ past) s block legal is = hand_known scripts past s block legal.1 is
 
-pub none_ready : (past : Past) (sessions : List Session) → AreMirrors past sessions → AreIdle sessions → IsIdle past
-none_ready past sessions mirrors idle = λ s. at s (slice_get sessions s) refl where
-  at : (s : ℕ) (o : Option Session) → slice_get sessions s ≡ o → is_some (hand past s) ≡ false
-  at s (Some t) is = not_some _ ((mirrors.each s t is).hand_is ∙ idle s t is)
-  at s None is = not_some _ (mirrors.beyond s (past_end sessions s is))
+-- a transaction began for a statement in hand
+begun_known : (scripts : Scripts) (past : Past) (r : ℕ) → Legal scripts past → option_map (starts (block_state past r)) (in_hand scripts past r) ≡ Some true → r < scripts.sessions
+begun_known scripts past r legal is = by_hand (hand past r) refl is where
+  by_hand : (o : Option ℕ) → hand past r ≡ o → option_map (starts (block_state past r)) (statement_of scripts o (dones past r)) ≡ Some true → r < scripts.sessions
+  by_hand None busy is = absurd cc
+  by_hand (Some block) busy is = hand_known scripts past r block legal busy
 
-pub ready_by : (past : Past) (sessions : List Session) (o : Option ℕ) → AreMirrors past sessions → IfSome o (λ at. IsFirstBusy sessions at) → IfNone o (AreIdle sessions) → IsReady past o
-ready_by past sessions (Some at) mirrors first idle = is_ready past sessions at mirrors first
-ready_by past sessions None mirrors first idle = none_ready past sessions mirrors idle
+pub xact_known : (scripts : Scripts) (past : Past) (s x : ℕ) → Legal scripts past → xact_of past s ≡ Some x → s < scripts.sessions
+xact_known scripts [] s x legal is = absurd cc
+xact_known scripts (Start r level ∷ past) s x legal is = by_test (r == s) refl is (λ h. xact_known scripts past s x legal.1 h) where
+  by_test : (b : Bool) → (r == s) ≡ b → cond b (Some (length past)) (xact_of past s) ≡ Some x → (xact_of past s ≡ Some x → s < scripts.sessions) → s < scripts.sessions
+  by_test true own is more = rw (← eqb-true r s own) (begun_known scripts past r legal.1 legal.0.rule.statement)
+  by_test false own is more = more is
+xact_known scripts (Commit y ∷ past) s x legal is = by_test (is_that (xact_of past s) y) is (λ h. xact_known scripts past s x legal.1 h) where
+  by_test : (b : Bool) → cond b None (xact_of past s) ≡ Some x → (xact_of past s ≡ Some x → s < scripts.sessions) → s < scripts.sessions
+  by_test true is more = absurd cc
+  by_test false is more = more is
+xact_known scripts (Abort y ∷ past) s x legal is = by_test (is_that (xact_of past s) y) is (λ h. xact_known scripts past s x legal.1 h) where
+  by_test : (b : Bool) → cond b None (xact_of past s) ≡ Some x → (xact_of past s ≡ Some x → s < scripts.sessions) → s < scripts.sessions
+  by_test true is more = absurd cc
+  by_test false is more = more is
+xact_known scripts (e ∷ past) s x legal is = xact_known scripts past s x legal.1 is
 
--- ---- the search for it
+-- so a session past the end of the list has neither
+pub none_past : (scripts : Scripts) (s : ℕ) (o : Option ℕ) → ((x : ℕ) → o ≡ Some x → s < scripts.sessions) → scripts.sessions ≤ s → o ≡ None
+none_past scripts s None known le = refl
+none_past scripts s (Some x) known le = absurd (let lt : s < scripts.sessions = known x refl in omega arith)
 
-pub first_busy_at : (sessions : List Session) (at : ℕ) (t : Session) → at < length sessions → t ≡ get_or sessions at t → IsSome t.hand → ((s : ℕ) (other : Session) → s < at → slice_get sessions s ≡ Some other → other.hand ≡ None) → IsFirstBusy sessions at
-first_busy_at sessions at t lt is busy before = record { session = t; there = slice_get_read sessions (length sessions) at t refl lt is; busy = busy; before = before }
+-- ---- who waits for the end of a transaction
 
--- one more session without a step in hand
-pub idle_on : (sessions : List Session) (at : ℕ) (t : Session) → at < length sessions → t ≡ get_or sessions at t → t.hand ≡ None → ((s : ℕ) (other : Session) → s < at → slice_get sessions s ≡ Some other → other.hand ≡ None) → (s : ℕ) (other : Session) → s < at + 1 → slice_get sessions s ≡ Some other → other.hand ≡ None
-idle_on sessions at t lt is none before s other le there = by_place (eqb_tells s at) where
-  by_place : ((eqb s at ≡ true) × (s ≡ at)) ⊎ ((eqb s at ≡ false) × (s ≢ at)) → other.hand ≡ None
-  by_place (inl e) =
-      let here : slice_get sessions at ≡ Some t = slice_get_read sessions (length sessions) at t refl lt is in
-      let both : Some other ≡ Some t = sym there ∙ rw e.1 here in
-      let same : other ≡ t = cc in
-      rw same none
-  by_place (inr e) = let apart : s ≢ at = e.1 in before s other (omega arith) there
+-- what is found open is one of those
+first_is : (P : ℕ → Type 0) (past : Past) (x y : ℕ) (ys : List ℕ) → Each P ys → first_open past x ys ≡ Some y → P y
+first_is P past x y [] each is = absurd cc
+first_is P past x y (z ∷ ys) each is = by_test (not (z == x) && is_open (fate past z)) is (λ h. first_is P past x y ys each.1 h) where
+  by_test : (b : Bool) → cond b (Some z) (first_open past x ys) ≡ Some y → (first_open past x ys ≡ Some y → P y) → P y
+  by_test true is more = let same : z ≡ y = cc in rw (← same) each.0
+  by_test false is more = more is
 
-pub all_idle : (sessions : List Session) (at : ℕ) → length sessions ≤ at → ((s : ℕ) (other : Session) → s < at → slice_get sessions s ≡ Some other → other.hand ≡ None) → AreIdle sessions
-all_idle sessions at le before = λ s other there. before s other (omega (arith, slice_get_within sessions s other there)) there
+-- the transaction that is in the way of a name has begun
+taker_began : (scripts : Scripts) (past : Past) (x y : ℕ) (o : Option Statement) → Legal scripts past → option_and_then (name_taker past x) o ≡ Some y → is_start past y ≡ true
+taker_began scripts past x y (Some (statements.CreateTable name columns)) legal is = first_is (Began past) past x y (makers past name) (makers_began_of scripts past name legal) is
+taker_began scripts past x y o legal is = absurd cc
+
+start_more : (place y : ℕ) (b : Bool) → b ≡ true → cond (place == y) true b ≡ true
+start_more place y b began = by_test (place == y) where
+  by_test : (c : Bool) → cond c true b ≡ true
+  by_test true = refl
+  by_test false = began
+
+still_wanted : (b : Bool) (o : Option Want) (want : Want) (P : Type 0) → cond b None o ≡ Some want → (o ≡ Some want → P) → P
+still_wanted true o want P is more = absurd cc
+still_wanted false o want P is more = more is
+
+-- so has the one that a session waits for
+pub ends_began : (scripts : Scripts) (past : Past) (s y : ℕ) → Legal scripts past → wanted_by past s ≡ Some (wants.Ends y) → is_start past y ≡ true
+ends_began scripts [] s y legal is = absurd cc
+ends_began scripts (Wait x want ∷ past) s y legal is = by_test (session_of past x == s) is (λ h. ends_began scripts past s y legal.1 h) where
+  by_test : (b : Bool) → cond b (Some want) (wanted_by past s) ≡ Some (wants.Ends y) → (wanted_by past s ≡ Some (wants.Ends y) → is_start past y ≡ true) → is_start past y ≡ true
+  by_test true is more =
+      let same : want ≡ wants.Ends y = cc in
+      taker_began scripts past x y (in_hand scripts past (session_of past x)) legal.1 (rw same at legal.0.rule.waits_for).1
+  by_test false is more = more is
+ends_began scripts (Start r level ∷ past) s y legal is = still_wanted (r == s) (wanted_by past s) (wants.Ends y) _ is (λ h. start_more (length past) y (is_start past y) (ends_began scripts past s y legal.1 h))
+ends_began scripts (e ∷ past) s y legal is = still_wanted (made_by past e == s) (wanted_by past s) (wants.Ends y) _ is (λ h. ends_began scripts past s y legal.1 h)
+
+-- ---- what is kept of the sessions is what they are doing
+
+among_in : (sessions : List Session) (x : ℕ) → is_open_in sessions x ≡ is_among (xacts_in sessions) x
+among_in [] x = refl
+among_in (t ∷ sessions) x = ap (λ (b : Bool). is_that t.xact x || b) (among_in sessions x)
+
+xact_got : (sessions : List Session) (s : ℕ) (o : Option ℕ) → ((t : Session) → slice_get sessions s ≡ Some t → t.xact ≡ o) → (slice_get sessions s ≡ None → o ≡ None) → get_or (xacts_in sessions) s None ≡ o
+xact_got [] s o there past = sym (past refl)
+xact_got (t ∷ sessions) zero o there past = there t refl
+xact_got (t ∷ sessions) (suc s) o there past = xact_got sessions s o there past
+
+module _ (scripts : Scripts) (p : Parts) (kept : IsKept scripts p) where
+  abbrev now : Past
+  now = past_of p.journal
+
+  past_sessions : (s : ℕ) → slice_get p.sessions s ≡ None → scripts.sessions ≤ s
+  past_sessions s is = let n : length p.sessions ≡ scripts.sessions = kept.sound.count in let le : length p.sessions ≤ s = past_end p.sessions s is in omega arith
+
+  -- the open transaction of a session
+  pub xact_so : (s : ℕ) → get_or (xacts_in p.sessions) s None ≡ xact_of now s
+  xact_so s = xact_got p.sessions s (xact_of now s) (λ t is. sym (kept.mirrors s t is).outline.xact_is) (λ is. none_past scripts s (xact_of now s) (λ x h. xact_known scripts now s x kept.sound.legal h) (past_sessions s is))
+
+  -- who is held up by what is kept is blocked
+  pub held_up_is : (s : ℕ) (t : Session) → slice_get p.sessions s ≡ Some t → is_held_up p.sessions t.wants ≡ is_blocked now s
+  held_up_is s t is = by_want t.wants (kept.mirrors s t is).outline.wants_is where
+    by_want : (o : Option Want) → wanted_by now s ≡ o → is_held_up p.sessions o ≡ is_blocked now s
+    by_want None so = rw so refl
+    by_want (Some (wants.Table table mode)) so = sym (blocked_by_lock now s table mode kept.clear.settled so)
+    by_want (Some (wants.Ends y)) so = rw so (among_in p.sessions y ∙ among_open scripts now (xacts_in p.sessions) kept.sound.legal xact_so y (ends_began scripts now s y kept.sound.legal so))
+
+  pub can_go_is : (s : ℕ) (t : Session) → slice_get p.sessions s ≡ Some t → can_go_on now s ≡ can_go p.sessions t
+  can_go_is s t is = rw ((kept.mirrors s t is).outline.hand_is, held_up_is s t is) refl
+
+  idle_past : (s : ℕ) → slice_get p.sessions s ≡ None → can_go_on now s ≡ false
+  idle_past s is = let none : hand now s ≡ None = kept.sound.beyond s (past_end p.sessions s is) in rw none refl
+
+  -- ---- the session that is ready
+
+  least : (at : ℕ) → IsFirstReady p.sessions at → IsLeast now at
+  least at first = (can_go_is at first.session first.there ∙ first.goes, λ r lt. below r lt (slice_get p.sessions r) refl) where
+    below : (r : ℕ) → r < at → (o : Option Session) → slice_get p.sessions r ≡ o → can_go_on now r ≡ false
+    below r lt None is = idle_past r is
+    below r lt (Some t) is = can_go_is r t is ∙ first.before r t lt is
+
+  none_ready : AreStuck p.sessions (length p.sessions) → IsIdle now
+  none_ready stuck = λ s. at s (slice_get p.sessions s) refl where
+    at : (s : ℕ) (o : Option Session) → slice_get p.sessions s ≡ o → can_go_on now s ≡ false
+    at s None is = idle_past s is
+    at s (Some t) is = can_go_is s t is ∙ stuck s t (slice_get_within p.sessions s t is) is
+
+  pub ready_by : (o : Option ℕ) → IfSome o (λ at. IsFirstReady p.sessions at) → IfNone o (AreStuck p.sessions (length p.sessions)) → IsReady now o
+  ready_by (Some at) first stuck = least at first
+  ready_by None first stuck = none_ready stuck
+
+  pub ready_within : (o : Option ℕ) → IfSome o (λ at. IsFirstReady p.sessions at) → IfSome o (λ at. at < scripts.sessions)
+  ready_within (Some at) first = let n : length p.sessions ≡ scripts.sessions = kept.sound.count in let lt : at < length p.sessions = slice_get_within p.sessions at first.session first.there in omega arith
+  ready_within None first = tt
+
+-- ---- who waits has a step in hand
+
+pub wanting_busy : (scripts : Scripts) (past : Past) (s : ℕ) (want : Want) → Legal scripts past → wanted_by past s ≡ Some want → is_some (hand past s) ≡ true
+wanting_busy scripts [] s want legal is = absurd cc
+wanting_busy scripts (Wait x asked ∷ past) s want legal is = by_test (session_of past x == s) refl is (λ h. wanting_busy scripts past s want legal.1 h) where
+  goes : (a b : Bool) → a && b ≡ true → a ≡ true
+  goes true b both = refl
+  goes false b both = both
+
+  by_test : (b : Bool) → (session_of past x == s) ≡ b → cond b (Some asked) (wanted_by past s) ≡ Some want → (wanted_by past s ≡ Some want → is_some (hand past s) ≡ true) → is_some (hand past s) ≡ true
+  by_test true own is more = rw (← eqb-true (session_of past x) s own) (goes (is_some (hand past (session_of past x))) _ legal.0.rule.in_step)
+  by_test false own is more = more is
+wanting_busy scripts (Give r block ∷ past) s want legal is = by_test (r == s) is (λ h. wanting_busy scripts past s want legal.1 h) where
+  by_test : (b : Bool) → cond b None (wanted_by past s) ≡ Some want → (wanted_by past s ≡ Some want → is_some (hand past s) ≡ true) → is_some (cond b (Some block) (hand past s)) ≡ true
+  by_test true is more = absurd cc
+  by_test false is more = more is
+wanting_busy scripts (End r ∷ past) s want legal is = by_test (r == s) is (λ h. wanting_busy scripts past s want legal.1 h) where
+  by_test : (b : Bool) → cond b None (wanted_by past s) ≡ Some want → (wanted_by past s ≡ Some want → is_some (hand past s) ≡ true) → is_some (cond b None (hand past s)) ≡ true
+  by_test true is more = absurd cc
+  by_test false is more = more is
+wanting_busy scripts (e ∷ past) s want legal is = still_wanted (made_by past e == s) (wanted_by past s) want _ is (λ h. wanting_busy scripts past s want legal.1 h)
+
+-- so an idle session has no request that waits
+pub idle_asks : (scripts : Scripts) (past : Past) (s : ℕ) → Legal scripts past → WantsSo past → hand past s ≡ None → (c : Claim) → is_held (waiting past) c ≡ true → (s == c.session) ≡ false
+idle_asks scripts past s legal so idle c there = by_test (s == c.session) refl where
+  by_test : (b : Bool) → (s == c.session) ≡ b → b ≡ false
+  by_test false other = refl
+  by_test true same =
+      let busy : is_some (hand past c.session) ≡ true = wanting_busy scripts past c.session _ legal (so c there) in
+      let none : hand past c.session ≡ None = rw (← eqb-true s c.session same) idle in
+      absurd (let wrong : false ≡ true = rw none at busy in cc)
+
+-- ---- one session has changed, in what is kept as in the journal
+
+pub mirrors_set : (scripts : Scripts) (past after : Past) (sessions : List Session) (s : ℕ) (u : Session)
+    → ((r : ℕ) (t : Session) → (s == r) ≡ false → slice_get sessions r ≡ Some t → IsMirror scripts (doing past r) t)
+    → ((r : ℕ) → (s == r) ≡ false → doing after r ≡ doing past r)
+    → IsMirror scripts (doing after s) u
+    → (r : ℕ) (t : Session) → slice_get (slice_set sessions s u) r ≡ Some t → IsMirror scripts (doing after r) t
+mirrors_set scripts past after sessions s u mirrors others own r t is = by_place (got_set sessions s r u t is) where
+  by_place : ((s ≡ r) × (u ≡ t)) ⊎ (((s == r) ≡ false) × (slice_get sessions r ≡ Some t)) → IsMirror scripts (doing after r) t
+  by_place (inl e) = rw (← e.0, ← e.1) own
+  by_place (inr e) = rw (others r e.0) (mirrors r t e.0 e.1)
+
+-- transactions that are marked stay so, where the session that has changed has no other
+pub marked_set : (sessions : List Session) (s n : ℕ) (u : Session) → ((r x : ℕ) (t : Session) → slice_get sessions r ≡ Some t → t.xact ≡ Some x → x < n) → ((x : ℕ) → u.xact ≡ Some x → x < n) → (r x : ℕ) (t : Session) → slice_get (slice_set sessions s u) r ≡ Some t → t.xact ≡ Some x → x < n
+marked_set sessions s n u marked own r x t is has = by_place (got_set sessions s r u t is) where
+  by_place : ((s ≡ r) × (u ≡ t)) ⊎ (((s == r) ≡ false) × (slice_get sessions r ≡ Some t)) → x < n
+  by_place (inl e) = own x (rw (← e.1) at has)
+  by_place (inr e) = marked r x t e.1 has

@@ -1,122 +1,178 @@
--- What the entries of a turn are, and what they leave as it was.
-use Rattle.std.proofs.Common.{◌≡◌, ℕ, ◌<◌, [], ◌∷◌, length, refl, true, false, Bool, Option, Some, None, arith, ◌∙◌}
-use Rattle.std.specs.Prelude.{◌==◌}
-use Rattle.al_history.specs.declared.entry.Cause.{Cause}
-use Rattle.al_history.specs.declared.entry.Entry.{Entry}
-use Rattle.al_history.specs.declared.entry.Entry.TheVariants.{Start, Look, Done, Refuse, Commit, Abort, End}
+-- A turn that begins or ends a transaction: what is kept then, and what it did.
+use Rattle.std.proofs.Common.{◌≡◌, ℕ, zero, suc, ◌+◌, ◌<◌, ◌≤◌, ◌-◌, List, [], ◌∷◌, ◌++◌, length, refl, ap, true, false, Bool, Option, Some, None, arith, ◌∙◌, inl, inr, slice_get, slice_set, replicate, option_map, append_assoc}
+use Rattle.std.specs.Prelude.{◌==◌, ◌&&◌, ◌⊎◌, not, is_some, IsSome}
+use Rattle.std.proofs.lemmas.Bool.{ne_eqb}
+use Rattle.std.proofs.lemmas.List.{append-nil, length-append, length-replicate}
+use Rattle.std.proofs.lemmas.Option.{slice_get_within}
 use Rattle.al_modes.specs.declared.level.Level.TheVariants as levels
-use Rattle.al_history.specs.declared.spec.Spec.{Spec}
-use Rattle.al_history.specs.declared.statement.Statement.{Statement}
-use Rattle.al_history.specs.declared.statement.Statement.TheVariants as statements
-use Rattle.al_history.specs.Past.{Past}
-use Rattle.al_history.specs.Database.{Table, Database, named}
-use Rattle.al_history.specs.Hand.{hand, closed, session_of, refused as has_refused}
-use Rattle.al_history.specs.Cause.{name_cause, look_cause}
-use Rattle.al_history.specs.Made.{made_by, Extends}
-use Rattle.al_history.specs.Whole.{driver, failed_setup}
-use Rattle.al_history.proofs.Pasts.{if_same}
-use Rattle.al_engine.specs.declared.steps.Ended.TheVariants as ends
-use Rattle.al_engine.specs.Steps.{xact_next, act_of, if_table, past_by_look, past_by_name, past_after}
-use Rattle.al_engine.specs.After.{is_refused, end_after, unless_refused}
-use Rattle.al_engine.specs.Ran.{failed_after}
+use Rattle.al_history.specs.declared.entry.Entry.{Entry}
+use Rattle.al_history.specs.declared.entry.Entry.TheVariants.{Start}
+use Rattle.al_history.specs.declared.statement.Scripts.{Scripts}
+use Rattle.al_history.specs.Past.{Past, past_of}
+use Rattle.al_history.specs.Hand.{hand, statement_of}
+use Rattle.al_history.specs.Locks.{waiting}
+use Rattle.al_history.specs.Waits.{is_blocked, can_go_on}
+use Rattle.al_history.specs.Rules.{starts}
+use Rattle.al_history.specs.Legal.{MayCome}
+use Rattle.al_history.specs.Whole.{driver, IsLeast}
+use Rattle.al_history.proofs.Doings.{doing, moved, own_moves, others_stay}
+use Rattle.al_history.proofs.Comes.{comes, goes}
+use Rattle.al_history.proofs.Turns.{Went, stage_begins, stage_on, stage_went, step_start}
+use Rattle.al_engine.specs.declared.sessions.Session.{Session}
+use Rattle.al_engine.specs.LockTie.{asks}
+use Rattle.al_engine.specs.Sessions.{IsUnderway, IsOutlined, IsMirror, state_of, light_of, light}
+use Rattle.al_engine.specs.Stored.{TellsCommitted}
+use Rattle.al_engine.specs.Kept.{Parts, IsSound, IsKept}
+use Rattle.al_engine.proofs.SessionLemmas.{light_at, light_set, got_set, length_set}
+use Rattle.al_engine.proofs.StoredLemmas.{tells_push}
+use Rattle.al_engine.proofs.Wanted.{free_asks, others_still, wants_all}
 
--- an entry of a transaction that the driver's questions don't see
-record IsQuiet (x : ℕ) (e : Entry) : Type 0 where
-  drives_not : (past : Past) → driver (e ∷ past) ≡ driver past
-  fails_not : (spec : Spec) (past : Past) → failed_setup spec (e ∷ past) ≡ failed_setup spec past
-  closes_not : (past : Past) (s : ℕ) → closed (e ∷ past) s ≡ closed past s
-  hands_not : (past : Past) (s : ℕ) → hand (e ∷ past) s ≡ hand past s
-  refuses_not : (past : Past) (s : ℕ) → has_refused (e ∷ past) s ≡ has_refused past s
-  starts_not : (past : Past) (y : ℕ) → session_of (e ∷ past) y ≡ session_of past y
-  made_so : (past : Past) → made_by past e ≡ session_of past x
+-- ---- a session that can go on
 
-quiet_look : (x : ℕ) → IsQuiet x (Look x)
-quiet_look x = record { drives_not = λ past. refl; fails_not = λ spec past. refl; closes_not = λ past s. refl; hands_not = λ past s. refl; refuses_not = λ past s. refl; starts_not = λ past y. refl; made_so = λ past. refl }
+-- what is known of it
+pub record IsGoing (scripts : Scripts) (past : Past) (s : ℕ) (seat : Session) : Type 0 where
+  pub block : ℕ
+  pub busy : seat.hand ≡ Some block
+  pub outline : IsOutlined (doing past s) seat
+  pub under : IsUnderway scripts (doing past s) block seat.looked
+  pub free : asks s (waiting past) ≡ false
 
-quiet_by : (o : Option Table) (act : Table → Entry) (x : ℕ) → ((t : Table) → IsQuiet x (act t)) → IsQuiet x (if_table o act (Look x))
-quiet_by None act x f = quiet_look x
-quiet_by (Some t) act x f = f t
+and_both : (a b : Bool) → (a && b) ≡ true → (a ≡ true) × (b ≡ true)
+and_both true true both = (refl, refl)
+and_both true false both = absurd cc
+and_both false b both = absurd cc
 
-quiet_act : (statement : Statement) (past : Past) (db : Database) → IsQuiet (xact_next past) (act_of statement past db)
-quiet_act statements.Begin past db = quiet_look _
-quiet_act statements.Commit past db = quiet_look _
-quiet_act statements.Rollback past db = quiet_look _
-quiet_act (statements.CreateTable name columns) past db = record { drives_not = λ past. refl; fails_not = λ spec past. refl; closes_not = λ past s. refl; hands_not = λ past s. refl; refuses_not = λ past s. refl; starts_not = λ past y. refl; made_so = λ past. refl }
-quiet_act (statements.Insert name written) past db = quiet_by (named db name) _ _ (λ t. record { drives_not = λ past. refl; fails_not = λ spec past. refl; closes_not = λ past s. refl; hands_not = λ past s. refl; refuses_not = λ past s. refl; starts_not = λ past y. refl; made_so = λ past. refl })
-quiet_act (statements.Select name) past db = quiet_by (named db name) _ _ (λ t. record { drives_not = λ past. refl; fails_not = λ spec past. refl; closes_not = λ past s. refl; hands_not = λ past s. refl; refuses_not = λ past s. refl; starts_not = λ past y. refl; made_so = λ past. refl })
-quiet_act (statements.AddColumn name column) past db = quiet_by (named db name) _ _ (λ t. record { drives_not = λ past. refl; fails_not = λ spec past. refl; closes_not = λ past s. refl; hands_not = λ past s. refl; refuses_not = λ past s. refl; starts_not = λ past y. refl; made_so = λ past. refl })
+not_not : (b : Bool) → not b ≡ true → b ≡ false
+not_not true is = absurd cc
+not_not false is = refl
 
--- what a turn did, but for the rules
-pub record Did (past after : Past) (s : ℕ) (refused : Bool) : Type 0 where
-  pub extends : Extends s past after
-  pub more : length past < length after
-  pub ended : hand after s ≡ None
-  pub told : has_refused after s ≡ refused
-  pub others : (r : ℕ) → (s == r) ≡ false → hand after r ≡ hand past r
-  pub driven : driver after ≡ driver past
-  pub closed_same : (r : ℕ) → closed after r ≡ closed past r
-  pub failed : (spec : Spec) → failed_setup spec after ≡ failed_after spec (failed_setup spec past) (hand past s) refused
+pub going : (scripts : Scripts) (p : Parts) (s : ℕ) (seat : Session) → IsKept scripts p → slice_get p.sessions s ≡ Some seat → can_go_on (past_of p.journal) s ≡ true → IsGoing scripts (past_of p.journal) s seat
+going scripts p s seat kept there goes =
+    let mirror : IsMirror scripts (doing (past_of p.journal) s) seat = kept.mirrors s seat there in
+    let both = and_both (is_some (hand (past_of p.journal) s)) (not (is_blocked (past_of p.journal) s)) goes in
+    by_hand mirror seat.hand refl (rw mirror.outline.hand_is at both.0) (free_asks (past_of p.journal) s kept.wants_so kept.clear.settled (not_not (is_blocked (past_of p.journal) s) both.1)) where
+      by_hand : IsMirror scripts (doing (past_of p.journal) s) seat → (o : Option ℕ) → seat.hand ≡ o → is_some o ≡ true → asks s (waiting (past_of p.journal)) ≡ false → IsGoing scripts (past_of p.journal) s seat
+      by_hand mirror None busy some free = absurd cc
+      by_hand mirror (Some block) busy some free = record { block = block; busy = busy; outline = mirror.outline; under = mirror.underway block busy; free = free }
 
-module _ (past : Past) (s : ℕ) (statement : Statement) (db : Database) (none_refused : has_refused past s ≡ false) where
-  -- the transaction that begins is the session's
-  own_xact : session_of (Start s levels.ReadCommitted ∷ past) (length past) ≡ s
-  own_xact = let place : (length past == length past) ≡ true = if_same (length past) in rw place refl
+-- ---- a transaction begins
 
-  did_by_look : (cause : Option Cause) → Did past (past_by_look s statement past db cause) s (is_refused (unless_refused cause ends.Done))
-  did_by_look None =
-      let quiet = quiet_act statement past db in
-      let act : Entry = act_of statement past db in
-      let looked : Past = Look (xact_next past) ∷ Start s levels.ReadCommitted ∷ past in
-      let same : (s == s) ≡ true = if_same s in
-      record {
-        extends = record {
-          entries = End s ∷ Commit (xact_next past) ∷ Done s _ ∷ act ∷ Look (xact_next past) ∷ Start s levels.ReadCommitted ∷ [];
-          more = refl;
-          own = (refl, (quiet.starts_not looked (xact_next past) ∙ own_xact, (refl, (quiet.made_so looked ∙ own_xact, (own_xact, (refl, tt))))));
-        };
-        more = omega arith;
-        ended = rw same refl;
-        told = quiet.refuses_not looked s ∙ none_refused;
-        others = λ r other. rw other (quiet.hands_not looked r);
-        driven = quiet.drives_not looked;
-        closed_same = λ r. quiet.closes_not looked r;
-        failed = λ spec. quiet.fails_not spec looked;
-      }
-  did_by_look (Some cause) =
-      let same : (s == s) ≡ true = if_same s in
-      record {
-        extends = record {
-          entries = End s ∷ Abort (xact_next past) ∷ Refuse s cause ∷ Look (xact_next past) ∷ Start s levels.ReadCommitted ∷ [];
-          more = refl;
-          own = (refl, (own_xact, (refl, (own_xact, (refl, tt)))));
-        };
-        more = omega arith;
-        ended = rw same refl;
-        told = rw same refl;
-        others = λ r other. rw other refl;
-        driven = refl;
-        closed_same = λ r. refl;
-        failed = λ spec. refl;
-      }
+tells_more : (past : Past) (committed : List Bool) (n : ℕ) → TellsCommitted past committed → TellsCommitted past (committed ++ replicate n false)
+tells_more past committed zero tells = rw (append-nil committed) tells
+tells_more past committed (suc n) tells = rw (← append_assoc committed (false ∷ []) (replicate n false)) (tells_more past (committed ++ false ∷ []) n (tells_push past committed tells))
 
-  did_by_name : (known : Option Cause) (cause : Option Cause) → cause ≡ look_cause statement [] db db → Did past (past_by_name s statement past db known) s (is_refused (unless_refused known (unless_refused cause ends.Done)))
-  did_by_name None cause is = rw is (did_by_look (look_cause statement [] db db))
-  did_by_name (Some known) cause is =
-      let same : (s == s) ≡ true = if_same s in
-      record {
-        extends = record {
-          entries = End s ∷ Abort (xact_next past) ∷ Refuse s known ∷ Start s levels.ReadCommitted ∷ [];
-          more = refl;
-          own = (refl, (own_xact, (refl, (refl, tt))));
-        };
-        more = omega arith;
-        ended = rw same refl;
-        told = rw same refl;
-        others = λ r other. rw other refl;
-        driven = refl;
-        closed_same = λ r. refl;
-        failed = λ spec. refl;
-      }
+-- the list reaches so far by now
+reached : (committed : List Bool) (n : ℕ) → n ≤ length (committed ++ replicate (n - length committed) false)
+reached committed n = omega (arith, length-append committed (replicate (n - length committed) false), length-replicate (n - length committed) false)
 
-  pub did : Did past (past_after s statement past db) s (is_refused (end_after statement db))
-  did = did_by_name (name_cause statement db) (look_cause statement [] db db) refl
+abbrev begun : ℕ → Session → Session
+begun x seat = record seat { xact = Some x; wants = None }
+
+light_begins : (x : ℕ) (seat : Session) (block : ℕ) → seat.hand ≡ Some block → seat.xact ≡ None → light_of (begun x seat) + 1 ≡ light_of seat
+light_begins x seat block busy none = rw (busy, none) (omega arith)
+
+module _ (scripts : Scripts) (p : Parts) (s x : ℕ) (seat : Session) (kept : IsKept scripts p) (there : slice_get p.sessions s ≡ Some seat) (can : can_go_on (past_of p.journal) s ≡ true) (needs : option_map (starts (state_of seat.block)) (statement_of scripts seat.hand 0) ≡ Some true) (none_open : seat.xact ≡ None) where
+  abbrev old : Past
+  old = past_of p.journal
+
+  abbrev e : Entry
+  e = Start s levels.ReadCommitted
+
+  going_so : IsGoing scripts old s seat
+  going_so = going scripts p s seat kept there can
+
+  pub begins_room : 0 < p.journal.room
+  begins_room =
+      let g : IsGoing scripts old s seat = going_so in
+      let reserved : light p.sessions + length p.locks.locks.waiting ≤ p.journal.room + 0 = kept.sound.reserved in
+      omega (arith, reserved, light_at p.sessions s seat there, light_begins x seat g.block g.busy none_open)
+
+  start_comes : MayCome scripts old e
+  start_comes =
+      let g : IsGoing scripts old s seat = going_so in
+      comes scripts old kept.sound.legal kept.clear.settled e (record { statement = rw (g.outline.block_is, g.outline.hand_is, g.under.none_done) needs; none_open = g.outline.xact_is ∙ none_open; read_committed = refl }) (rw kept.clear.owed_is tt)
+
+  own_begins : doing (e ∷ old) s ≡ moved old e (doing old s)
+  own_begins = own_moves old s e refl
+
+  goes_then : can_go_on (e ∷ old) s ≡ true
+  goes_then =
+      let g : IsGoing scripts old s seat = going_so in
+      goes scripts (e ∷ old) s (moved old e (doing old s)) (start_comes, kept.sound.legal) own_begins kept.clear.settled g.block (g.outline.hand_is ∙ g.busy) refl
+
+  pub begins_went : (new : Past) → new ≡ e ∷ old → Went scripts s old new false (driver old) (IsLeast old s)
+  begins_went new noted = rw noted (stage_went scripts s old (e ∷ old) 0 (stage_on scripts s old old 0 0 e (stage_begins scripts s old kept.sound.legal kept.clear.settled kept.clear.owed_is) (step_start s levels.ReadCommitted) refl start_comes kept.clear.settled refl goes_then (omega arith)) (omega arith) (omega arith))
+
+  module _ (q : Parts) (noted : past_of q.journal ≡ e ∷ old) (at : x ≡ length old) (room : q.journal.room + 1 ≡ p.journal.room) (sessions : q.sessions ≡ slice_set p.sessions s (begun x seat)) (tables : q.tables ≡ p.tables) (locks : q.locks ≡ p.locks) (marks : q.committed ≡ p.committed ++ replicate (x + 1 - length p.committed) false) where
+    length_so : length q.sessions ≡ length p.sessions
+    length_so = rw sessions (length_set p.sessions s (begun x seat))
+
+    other_so : (r : ℕ) → length p.sessions ≤ r → (s == r) ≡ false
+    other_so r le = let within : s < length p.sessions = slice_get_within p.sessions s seat there in ne_eqb s r (λ (same : s ≡ r). omega arith)
+
+    marked_so : (r y : ℕ) (t : Session) → slice_get q.sessions r ≡ Some t → t.xact ≡ Some y → y < length q.committed
+    marked_so r y t is own = by_place (got_set p.sessions s r (begun x seat) t (rw sessions at is)) where
+      far : x + 1 ≤ length q.committed
+      far = rw marks (reached p.committed (x + 1))
+
+      more : length p.committed ≤ length q.committed
+      more = rw marks (omega (arith, length-append p.committed (replicate (x + 1 - length p.committed) false)))
+
+      by_place : ((s ≡ r) × (begun x seat ≡ t)) ⊎ (((s == r) ≡ false) × (slice_get p.sessions r ≡ Some t)) → y < length q.committed
+      by_place (inl here) =
+          let its : Some x ≡ Some y = ap (λ (u : Session). u.xact) here.1 ∙ own in
+          let same : x ≡ y = cc in
+          omega (arith, far)
+      by_place (inr away) = omega (arith, more, kept.sound.marked r y t away.1 own)
+
+    mirrors_so : (r : ℕ) (t : Session) → slice_get q.sessions r ≡ Some t → IsMirror scripts (doing (e ∷ old) r) t
+    mirrors_so r t is = by_place (got_set p.sessions s r (begun x seat) t (rw sessions at is)) where
+      own : IsMirror scripts (doing (e ∷ old) s) (begun x seat)
+      own =
+          let was : IsMirror scripts (doing old s) seat = kept.mirrors s seat there in
+          rw (own_begins, at) (record {
+            outline = record { hand_is = was.outline.hand_is; xact_is = refl; block_is = was.outline.block_is; closed_is = was.outline.closed_is; wants_is = refl };
+            underway = λ block busy. let u : IsUnderway scripts (doing old s) block seat.looked = was.underway block busy in record { none_done = u.none_done; none_refused = u.none_refused; no_acts = u.no_acts; look_is = u.look_is; only_creates = u.only_creates; has_one = u.has_one; has_no_more = u.has_no_more };
+          })
+
+      by_place : ((s ≡ r) × (begun x seat ≡ t)) ⊎ (((s == r) ≡ false) × (slice_get p.sessions r ≡ Some t)) → IsMirror scripts (doing (e ∷ old) r) t
+      by_place (inl here) = rw (← here.0, ← here.1) own
+      by_place (inr away) = rw (others_stay scripts old s r kept.sound.legal away.0 e refl) (kept.mirrors r t away.1)
+
+    reserved_so : light q.sessions + length q.locks.locks.waiting ≤ q.journal.room + 0
+    reserved_so =
+        let g : IsGoing scripts old s seat = going_so in
+        let reserved : light p.sessions + length p.locks.locks.waiting ≤ p.journal.room + 0 = kept.sound.reserved in
+        let set : light q.sessions + light_of seat ≡ light p.sessions + light_of (begun x seat) = rw sessions (light_set p.sessions s seat (begun x seat) there) in
+        let less : light_of (begun x seat) + 1 ≡ light_of seat = light_begins x seat g.block g.busy none_open in
+        rw locks (omega (arith, reserved, set, less, room))
+
+    sound_so : IsSound scripts q 0
+    sound_so = record {
+      legal = rw noted (start_comes, kept.sound.legal);
+      count = length_so ∙ kept.sound.count;
+      beyond = λ r le. rw noted (kept.sound.beyond r (let n : length q.sessions ≡ length p.sessions = length_so in omega arith));
+      stored = rw (tables, noted) kept.sound.stored;
+      tells = rw (noted, marks) (tells_more old p.committed (x + 1 - length p.committed) kept.sound.tells);
+      marked = marked_so;
+      table_count = rw locks kept.sound.table_count;
+      tied = rw (noted, locks) (record { waits = kept.sound.tied.waits; holds = kept.sound.tied.holds; apart = kept.sound.tied.apart });
+      queues = rw locks kept.sound.queues;
+      reserved = reserved_so;
+      single = kept.sound.single;
+    }
+
+    pub begins_kept : IsKept scripts q
+    begins_kept =
+        let g : IsGoing scripts old s seat = going_so in
+        record {
+          sound = sound_so;
+          wants_so = rw noted (wants_all (e ∷ old) s g.free (others_still old s e refl refl (λ r. refl) (λ c there other. kept.wants_so c there)));
+          mirrors = rw noted mirrors_so;
+          clear = rw noted (record { owed_is = refl; settled = kept.clear.settled });
+        }
+
+-- ---- whose statement is in hand
+
+pub statement_there : (scripts : Scripts) (p : Parts) (s : ℕ) (seat : Session) → IsKept scripts p → slice_get p.sessions s ≡ Some seat → can_go_on (past_of p.journal) s ≡ true → IsSome (statement_of scripts seat.hand 0)
+statement_there scripts p s seat kept there can = let g : IsGoing scripts (past_of p.journal) s seat = going scripts p s seat kept there can in rw g.busy g.under.has_one

@@ -1,7 +1,7 @@
-pub mod Between
-pub mod Steps
-pub mod Stored
-pub mod After
 pub mod Ran
+pub mod Stored
 pub mod Sessions
+pub mod LockTie
 pub mod Kept
+pub mod Ended
+pub mod Closing

@@ -1,17 +1,21 @@
 -- What contracts see of the engine: the blocks of its run and the journal so far; and what its calls do to these.
-use Rattle.std.specs.Prelude.{◌≡◌, ℕ, ◌<◌, Bool, cond, length, Option, Some, None, IsSome, slice_get, option_map, ◌==◌, true, false, ◌∷◌}
+use Rattle.std.specs.Prelude.{◌≡◌, ℕ, ◌<◌, ◌≤◌, ◌+◌, ◌⊎◌, List, [], ◌++◌, Bool, cond, length, Option, Some, None, IsSome, slice_get, ◌==◌, true, false, ◌∷◌}
 use Rattle.std.specs.List.{AllByRecursion}
 use Rattle.al_values.specs.declared.cant.Cant.{Cant}
 use Rattle.al_values.specs.declared.cant.Cant.TheVariants as cants
 use Rattle.al_history.specs.declared.entry.Cause.TheVariants as causes
-use Rattle.al_history.specs.declared.entry.Entry.TheVariants.{Refuse, Cancel, End}
+use Rattle.al_history.specs.declared.entry.Entry.TheVariants.{Refuse, Abort, Cancel, End, Close}
 use Rattle.al_history.specs.declared.spec.Spec.{Spec}
+use Rattle.al_history.specs.declared.statement.Statement.{Statement}
+use Rattle.al_history.specs.declared.statement.Statement.TheVariants as statements
 use Rattle.al_history.specs.declared.statement.ScriptBlock.{ScriptBlock}
 use Rattle.al_history.specs.declared.statement.Scripts.{Scripts}
 use Rattle.al_history.specs.Past.{Past}
-use Rattle.al_history.specs.Hand.{hand, closed, refused as has_refused}
-use Rattle.al_history.specs.Made.{Extends}
-use Rattle.al_history.specs.Rules.{has_place}
+use Rattle.al_history.specs.Hand.{hand, xact_of, closed}
+use Rattle.al_history.specs.Locks.{is_grant}
+use Rattle.al_history.specs.Waits.{is_blocked}
+use Rattle.al_history.specs.Made.{Extends, row_entries}
+use Rattle.al_history.specs.declared.entry.Entry.{Entry}
 use Rattle.al_history.specs.Legal.{Legal}
 use Rattle.al_history.specs.Whole.{driver, failed_setup, or_else, of_setup, IsIdle, IsLeast, Driven}
 use Rattle.al_engine.specs.declared.told.Busy.{Busy}
@@ -26,10 +30,10 @@ pub record Ran : Type 0 where
 abbrev pub IsLegalRun : Ran → Type 0
 IsLegalRun ran = Legal ran.scripts ran.past
 
--- a block is of one of the sessions, and has one statement, which isn't BEGIN, COMMIT or ROLLBACK
+-- a block is of one of the sessions, and has one statement
 pub record IsSingle (sessions : ℕ) (block : ScriptBlock) : Type 0 where
   pub known : block.session < sessions
-  pub has_one : option_map has_place (slice_get block.script 0) ≡ Some true
+  pub has_one : IsSome (slice_get block.script 0)
   pub has_no_more : slice_get block.script 1 ≡ None
 
 abbrev pub AreSingle : Scripts → Type 0
@@ -44,22 +48,36 @@ IsBusyFor ran session cants.NoMemory = hand ran.past session ≡ None
 abbrev pub failed_after : Spec → Option ℕ → Option ℕ → Bool → Option ℕ
 failed_after spec failed block refused = cond refused (or_else failed (of_setup spec block)) failed
 
--- A turn made these entries, all of them the session's, its step has come to its end, and it tells whether a statement of
--- the step was refused. What the driver did is as it was; where the session is the least that can go on, each entry came in its turn.
-pub record WentOn (old new : Ran) (session from to : ℕ) (refused : Bool) : Type 0 where
+-- What a call does that goes on with a session's step, by itself or by cancelling it: the entries that it makes are of the
+-- session, but for locks of requests that waited; and it tells whether the step was refused. Where the session's step has come
+-- to its end it has none in hand any more.
+pub record GoesOn (old new : Ran) (session : ℕ) (refused : Bool) : Type 0 where
   pub scripts : new.scripts ≡ old.scripts
   pub in_step : IsSome (hand old.past session)
+  pub extends : Extends session old.past new.past
+  pub own : (hand new.past session ≡ None) ⊎ (hand new.past session ≡ hand old.past session)
+  pub others : (s : ℕ) → (session == s) ≡ false → hand new.past s ≡ hand old.past s
+  pub closed_same : (s : ℕ) → closed new.past s ≡ closed old.past s
+  pub failed : (spec : Spec) → failed_setup spec new.past ≡ failed_after spec (failed_setup spec old.past) (hand old.past session) refused
+
+-- A turn made the entries at these places, one of a row at most. A step that was refused has come to its end. What the driver did is as it was; where the session is the least that can go on, each
+-- entry came in its turn.
+pub record WentOn (old new : Ran) (session from to : ℕ) (refused : Bool) : Type 0 where
+  pub goes_on : GoesOn old new session refused
+  pub not_blocked : is_blocked old.past session ≡ false
+  pub refused_ends : refused ≡ true → hand new.past session ≡ None
   pub from_is : from ≡ length old.past
   pub to_is : to ≡ length new.past
   pub some : from < to
-  pub extends : Extends session old.past new.past
-  pub ended : hand new.past session ≡ None
-  pub told : has_refused new.past session ≡ refused
-  pub others : (s : ℕ) → (session == s) ≡ false → hand new.past s ≡ hand old.past s
+  pub one_row : row_entries new.past ≤ row_entries old.past + 1
   pub driven : driver new.past ≡ driver old.past
-  pub closed_same : (s : ℕ) → closed new.past s ≡ closed old.past s
-  pub failed : (spec : Spec) → failed_setup spec new.past ≡ failed_after spec (failed_setup spec old.past) (hand old.past session) refused
   pub in_turn : IsLeast old.past session → Driven old.scripts old.past → Driven new.scripts new.past
+
+-- a turn waits exactly where somebody blocks the session's step in hand
+pub record IsWaitingTurn (old new : Ran) (session : ℕ) : Type 0 where
+  pub same : new ≡ old
+  pub in_step : IsSome (hand old.past session)
+  pub blocked : is_blocked old.past session ≡ true
 
 -- a turn is idle exactly where the session has no step in hand
 pub record IsIdleTurn (old new : Ran) (session : ℕ) : Type 0 where
@@ -68,15 +86,59 @@ pub record IsIdleTurn (old new : Ran) (session : ℕ) : Type 0 where
 
 abbrev pub IsTurned : Ran → Ran → ℕ → Told → Type 0
 IsTurned old new session (tells.Went from to refused) = WentOn old new session from to refused
+IsTurned old new session tells.Waits = IsWaitingTurn old new session
 IsTurned old new session tells.Idle = IsIdleTurn old new session
 
--- the journal with the session's step in hand cancelled; as it was where it has none
-abbrev pub cancelled_by : Option ℕ → ℕ → Past → Past
-cancelled_by None session past = past
-cancelled_by (Some block) session past = End session ∷ Refuse session (causes.Cancelled (length past)) ∷ Cancel session ∷ past
+abbrev pub aborted_by : Option ℕ → Past → Past
+aborted_by None past = past
+aborted_by (Some x) past = Abort x ∷ past
 
-abbrev pub cancelled : ℕ → Past → Past
-cancelled session past = cancelled_by (hand past session) session past
+-- locks of requests that waited
+abbrev pub AreGrants : List Entry → Past → Type 0
+AreGrants [] past = Unit {0}
+AreGrants (e ∷ entries) past = (is_grant (entries ++ past) e ≡ true) × AreGrants entries past
+
+-- the Abort of a transaction, where one is open, and then the locks that it frees
+pub record IsAborted (x : Option ℕ) (old new : Past) : Type 0 where
+  pub grants : List Entry
+  pub are_grants : AreGrants grants (aborted_by x old)
+  pub is : new ≡ grants ++ aborted_by x old
+  pub none_open : x ≡ None → grants ≡ []
+
+-- The step in hand is cancelled: the Cancel, the Refuse, the Abort of an open transaction with the locks that it frees, and the
+-- End. The driver has cancelled; where no session could go on, each entry came in its turn.
+pub record IsCancelled (old new : Ran) (session : ℕ) : Type 0 where
+  pub goes_on : GoesOn old new session true
+  pub aborted : Past
+  pub is_aborted : IsAborted (xact_of old.past session) (Refuse session (causes.Cancelled (length old.past)) ∷ Cancel session ∷ old.past) aborted
+  pub is : new.past ≡ End session ∷ aborted
+  pub ended : hand new.past session ≡ None
+  pub driven : driver new.past ≡ driver old.past ++ Cancel session ∷ []
+  pub in_turn : IsIdle old.past → Driven old.scripts old.past → Driven new.scripts new.past
+
+-- an idle session stays as it is
+abbrev pub Cancels : Ran → Ran → ℕ → Option ℕ → Type 0
+Cancels old new session None = new ≡ old
+Cancels old new session (Some block) = IsCancelled old new session
+
+-- The session is closed, after the Abort of its open transaction with the locks that it frees.
+pub record IsClosed (old new : Ran) (session : ℕ) : Type 0 where
+  pub scripts : new.scripts ≡ old.scripts
+  pub aborted : Past
+  pub is_aborted : IsAborted (xact_of old.past session) old.past aborted
+  pub is : new.past ≡ Close session ∷ aborted
+  pub extends : Extends session old.past new.past
+  pub hands : (s : ℕ) → hand new.past s ≡ hand old.past s
+  pub closed_now : (s : ℕ) → closed new.past s ≡ cond (session == s) true (closed old.past s)
+  pub failed : (spec : Spec) → failed_setup spec new.past ≡ failed_setup spec old.past
+  pub driven : driver new.past ≡ driver old.past ++ Close session ∷ []
+  pub in_turn : Driven old.scripts old.past → Driven new.scripts new.past
+
+-- whether a statement ends a block
+abbrev pub ends_block : Option Statement → Bool
+ends_block (Some statements.Commit) = true
+ends_block (Some statements.Rollback) = true
+ends_block statement = false
 
 -- the session that is ready is the least that can go on, where one can
 abbrev pub IsReady : Past → Option ℕ → Type 0

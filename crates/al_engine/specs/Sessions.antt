@@ -1,42 +1,125 @@
 -- What is kept of the sessions, and what it stands for.
-use Rattle.std.specs.Prelude.{◌≡◌, ℕ, ◌+◌, ◌<◌, ◌≤◌, false, cond, List, [], ◌∷◌, length, slice_get, Option, Some, None, IsSome}
-use Rattle.al_history.specs.Past.{Past}
-use Rattle.al_history.specs.Hand.{hand, closed}
+use Rattle.std.specs.Prelude.{◌≡◌, ℕ, ◌+◌, ◌<◌, ◌&&◌, Bool, true, false, not, cond, List, [], ◌∷◌, map, slice_get, slice_set, Option, Some, None, IsSome, is_some, option_and_then, unwrap_or}
+use Rattle.std.specs.List.{list_any}
+use Rattle.al_history.specs.declared.entry.Want.{Want}
+use Rattle.al_history.specs.declared.entry.Want.TheVariants as wants
+use Rattle.al_history.specs.declared.statement.Scripts.{Scripts}
+use Rattle.al_history.specs.declared.statement.Statement.{Statement}
+use Rattle.al_history.specs.declared.statement.Statement.TheVariants as statements
+use Rattle.al_history.specs.Fate.{is_that}
+use Rattle.al_history.specs.Hand.{BlockState, NoBlock, OpenBlock, FailedBlock, statement_of}
+use Rattle.al_history.proofs.Doings.{Doing}
+use Rattle.al_queue.specs.declared.grant.Grant.{Grant}
+use Rattle.al_engine.specs.declared.sessions.Block.{Block}
+use Rattle.al_engine.specs.declared.sessions.Block.TheVariants as blocks
 use Rattle.al_engine.specs.declared.sessions.Session.{Session}
 
 -- an open session without a step in hand
 abbrev pub idle_session : Session
-idle_session = record { hand = None; closed = false }
+idle_session = record { hand = None; xact = None; block = blocks.Outside; looked = false; wants = None; closed = false }
 
--- no session has a step in hand
-abbrev pub AreIdle : List Session → Type 0
-AreIdle sessions = (s : ℕ) (session : Session) → slice_get sessions s ≡ Some session → session.hand ≡ None
+abbrev pub state_of : Block → BlockState
+state_of blocks.Outside = NoBlock
+state_of blocks.Open = OpenBlock
+state_of (blocks.Failed refuse) = FailedBlock refuse
 
--- the session at this place is the first with a step in hand
-pub record IsFirstBusy (sessions : List Session) (at : ℕ) : Type 0 where
+-- a CREATE TABLE
+abbrev pub MakesTable : Option Statement → Type 0
+MakesTable (Some (statements.CreateTable name columns)) = Unit {0}
+MakesTable statement = ⊥
+
+-- A session's step in hand is under way: its statement, the only one of its block, has done nothing yet. Between two calls only a
+-- CREATE TABLE has looked: it waits.
+pub record IsUnderway (scripts : Scripts) (d : Doing) (block : ℕ) (looked : Bool) : Type 0 where
+  pub none_done : d.dones ≡ 0
+  pub none_refused : d.refused ≡ false
+  pub no_acts : d.acts ≡ []
+  pub look_is : is_some d.look ≡ looked
+  pub only_creates : looked ≡ true → MakesTable (statement_of scripts (Some block) 0)
+  pub has_one : IsSome (statement_of scripts (Some block) 0)
+  pub has_no_more : statement_of scripts (Some block) 1 ≡ None
+
+-- what a session is doing by the journal, but for its step, is what is kept of it
+pub record IsOutlined (d : Doing) (t : Session) : Type 0 where
+  pub hand_is : d.hand ≡ t.hand
+  pub xact_is : d.xact ≡ t.xact
+  pub block_is : d.block ≡ state_of t.block
+  pub closed_is : d.closed ≡ t.closed
+  pub wants_is : d.wants ≡ t.wants
+
+-- what a session is doing by the journal is what is kept of it
+pub record IsMirror (scripts : Scripts) (d : Doing) (t : Session) : Type 0 where
+  pub outline : IsOutlined d t
+  pub underway : (block : ℕ) → t.hand ≡ Some block → IsUnderway scripts d block t.looked
+
+-- the open transaction of a session
+abbrev pub xact_in : List Session → ℕ → ℕ
+xact_in sessions s = unwrap_or (option_and_then (λ (t : Session). t.xact) (slice_get sessions s)) 0
+
+-- the open transactions of the sessions
+abbrev pub xacts_in : List Session → List (Option ℕ)
+xacts_in sessions = map (λ (t : Session). t.xact) sessions
+
+-- ---- who can go on
+
+-- whether one of the sessions has the transaction open
+abbrev pub is_open_in : List Session → ℕ → Bool
+is_open_in sessions x = list_any (λ (t : Session). is_that t.xact x) sessions
+
+-- Whether somebody holds up what is wanted: a lock is always held up while it is waited for, since it is granted as soon as it can
+-- be; the end of a transaction while one of the sessions has it open.
+abbrev pub is_held_up : List Session → Option Want → Bool
+is_held_up sessions None = false
+is_held_up sessions (Some (wants.Table table mode)) = true
+is_held_up sessions (Some (wants.Ends x)) = is_open_in sessions x
+
+-- a session has a step in hand, and nobody holds it up
+abbrev pub can_go : List Session → Session → Bool
+can_go sessions t = is_some t.hand && not (is_held_up sessions t.wants)
+
+-- none of the first so many can go on
+abbrev pub AreStuck : List Session → ℕ → Type 0
+AreStuck sessions count = (s : ℕ) (t : Session) → s < count → slice_get sessions s ≡ Some t → can_go sessions t ≡ false
+
+-- the session at this place is the first that can go on
+pub record IsFirstReady (sessions : List Session) (at : ℕ) : Type 0 where
   pub session : Session
   pub there : slice_get sessions at ≡ Some session
-  pub busy : IsSome session.hand
-  pub before : (s : ℕ) (other : Session) → s < at → slice_get sessions s ≡ Some other → other.hand ≡ None
+  pub goes : can_go sessions session ≡ true
+  pub before : AreStuck sessions at
 
--- a session is kept as the journal has it
-pub record IsMirror (past : Past) (s : ℕ) (session : Session) : Type 0 where
-  pub hand_is : hand past s ≡ session.hand
-  pub closed_is : closed past s ≡ session.closed
+-- ---- light entries
 
--- each session is kept as the journal has it, and past their number no session has a step in hand
-pub record AreMirrors (past : Past) (sessions : List Session) : Type 0 where
-  pub each : (s : ℕ) (session : Session) → slice_get sessions s ≡ Some session → IsMirror past s session
-  pub beyond : (s : ℕ) → length sessions ≤ s → hand past s ≡ None
+-- How many entries are reserved for a session: its Close; the end of its open transaction; and for its step in hand a Cancel, the
+-- Refuse or Done, the End, and where none is open the Start and the end of a transaction.
+abbrev pub of_xact : Option ℕ → ℕ
+of_xact None = 0
+of_xact (Some x) = 1
 
--- how many entries are reserved for a session: its Close, and the light ones of its step in hand
-abbrev pub of_hand : Option ℕ → ℕ
-of_hand None = 0
-of_hand (Some block) = 4
+abbrev pub of_step : Option ℕ → ℕ
+of_step None = 5
+of_step (Some x) = 3
+
+abbrev pub of_hand : Option ℕ → Option ℕ → ℕ
+of_hand None xact = 0
+of_hand (Some block) xact = of_step xact
 
 abbrev pub light_of : Session → ℕ
-light_of session = cond session.closed 0 1 + of_hand session.hand
+light_of t = cond t.closed 0 1 + (of_xact t.xact + of_hand t.hand t.xact)
 
 abbrev pub light : List Session → ℕ
 light [] = 0
-light (session ∷ sessions) = light_of session + light sessions
+light (t ∷ sessions) = light_of t + light sessions
+
+-- a session waits no more
+abbrev pub waked : List Session → ℕ → Option Session → List Session
+waked sessions s None = sessions
+waked sessions s (Some t) = slice_set sessions s (record t { wants = None })
+
+abbrev pub wakened : ℕ → List Session → List Session
+wakened s sessions = waked sessions s (slice_get sessions s)
+
+-- the sessions of these requests wait no more
+abbrev pub woken : List Grant → List Session → List Session
+woken [] sessions = sessions
+woken (grant ∷ grants) sessions = woken grants (wakened grant.session sessions)

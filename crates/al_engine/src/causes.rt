@@ -1,23 +1,30 @@
 //! Why statements are refused.
-ghost use Rattle.std.specs.Prelude.{◌≡◌, ◌<◌, [], length, take, drop, IfOk};
+ghost use Rattle.std.specs.Prelude.{◌≡◌, [], Some, IfOk};
 ghost use Rattle.al_history.specs.Cause.{create_cause, twice_column, is_among, alter_cause, count_cause};
-ghost use Rattle.al_engine.specs.Stored.{tables_of, table_of};
+ghost use Rattle.al_history.specs.Store.{shown};
+ghost use Rattle.al_engine.specs.Stored.{all_kept, seen_by, of_columns};
 
-use crate::stored::{StoredTable, has_column, position_of};
+use crate::stored::{Reader, StoredTable, has_column, position_of};
 use al_history::{Cause, Column};
 use al_values::{Copied, Name, NoMemory, count_of};
 use std::alloc::Global;
 
-/// Why a CREATE TABLE is refused: its name first, then its columns' names.
+/// Why a CREATE TABLE is refused: its name first, then its columns' names. Where an open transaction of another is in the way
+/// of the name, nothing is said of the name.
 pub fn create_cause(
     alloc: Global,
     tables: &[StoredTable],
+    reader: &Reader<'_>,
     name: &Name,
     columns: &[Name],
+    taker: Option<u32>,
 ) -> Result<Option<Cause>, NoMemory>
-    ensures { IfOk result (λ cause. cause ≡ create_cause name.now columns.now (tables_of tables.now)) }
+    ensures { let f = seen_by (Some reader.now.xact) reader.now.committed.now in IfOk result (λ cause. cause ≡ create_cause name.now columns.now taker (shown f (all_kept tables.now))) }
 {
-    if position_of(tables, name).is_some() {
+    if taker.is_some() {
+        return twice_column(alloc, columns);
+    }
+    if position_of(tables, reader, name).is_some() {
         return Ok(Some(Cause::TwiceTable {
             name: name.copied(alloc)?,
         }));
@@ -44,11 +51,11 @@ fn is_among(names: &[Name], name: &Name) -> bool
     names.iter().any(|other| *other == *name)
 }
 
-/// Why an INSERT of so many values is refused.
-pub fn count_cause(table: &StoredTable, got: usize) -> Result<Option<Cause>, NoMemory>
-    ensures { IfOk result (λ cause. cause ≡ count_cause got (Some (table_of table.now))) }
+/// Why an INSERT of so many values into a table of these columns is refused.
+pub fn count_cause(columns: &[Column], got: usize) -> Result<Option<Cause>, NoMemory>
+    ensures { IfOk result (λ cause. cause ≡ count_cause got (Some (of_columns columns.now))) }
 {
-    let want = table.columns.len();
+    let want = columns.len();
     if want >= got {
         return Ok(None);
     }
@@ -58,15 +65,15 @@ pub fn count_cause(table: &StoredTable, got: usize) -> Result<Option<Cause>, NoM
     }))
 }
 
-/// Why an ALTER TABLE is refused.
+/// Why an ALTER TABLE that adds a column to a table of these columns is refused.
 pub fn alter_cause(
     alloc: Global,
-    table: &StoredTable,
+    columns: &[Column],
     column: &Column,
 ) -> Result<Option<Cause>, NoMemory>
-    ensures { IfOk result (λ cause. cause ≡ alter_cause column.now (Some (table_of table.now))) }
+    ensures { IfOk result (λ cause. cause ≡ alter_cause column.now (Some (of_columns columns.now))) }
 {
-    if !has_column(table.columns.as_slice(), &column.name) {
+    if !has_column(columns, &column.name) {
         return Ok(None);
     }
     Ok(Some(Cause::TwiceColumn {

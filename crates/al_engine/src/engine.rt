@@ -1,43 +1,43 @@
-ghost use Rattle.std.specs.Prelude.{◌≡◌, ◌+◌, ◌<◌, ◌≤◌, ◌∷◌, [], true, false, None, Some, length, IfOk, IfErr, OnOk, OnErr, IsSome, slice_get, option_map};
-ghost use Rattle.al_history.specs.declared.entry.Entry.TheVariants.{Give, Close};
+ghost use Rattle.std.specs.Prelude.{◌≡◌, ◌<◌, ◌∷◌, [], false, None, Some, IfOk, IfErr, OnOk, OnErr, IfSome, is_some, slice_get, option_map};
+ghost use Rattle.al_history.specs.declared.entry.Entry.TheVariants.{Give};
 ghost use Rattle.al_history.specs.Past.{past_of};
-ghost use Rattle.al_history.specs.Hand.{hand, closed, statement_of};
-ghost use Rattle.al_history.specs.Rules.{has_place};
-ghost use Rattle.al_engine.specs.Ran.{Ran, IsLegalRun, AreSingle, IsBusyFor, IsTurned, cancelled, IsReady};
-ghost use Rattle.al_engine.specs.After.{IsAfter, IsBefore};
-ghost use Rattle.al_engine.specs.Stored.{AreSound};
+ghost use Rattle.al_history.specs.Hand.{hand, in_hand, closed};
+ghost use Rattle.al_engine.specs.Kept.{IsKept, parts_of, past_in};
+ghost use Rattle.al_engine.specs.Closing.{HasLeft};
+ghost use Rattle.al_engine.specs.Ran.{Ran, IsLegalRun, AreSingle, IsBusyFor, IsTurned, ends_block, Cancels, IsClosed, IsReady};
 
-use crate::notes::{LIGHT_ENTRIES, note_cancelled};
-use crate::sessions::{Session, first_busy, idle_sessions};
-use crate::steps::{Ended, add_column, create_table, insert, select};
-use crate::stored::StoredTable;
+use crate::machine::{Machine, abort, refuse};
+use crate::sessions::{Session, first_ready, idle_sessions, is_held_up};
 use crate::told::{Busy, Told};
-use al_history::{Entry, History, Scripts, Statement};
+use crate::turns::go_on;
+use al_history::{Cause, Entry, History, Scripts};
+use al_queue::LockTable;
 use al_values::{Cant, NoMemory};
 use std::alloc::Global;
 use std::marker::Model;
 
+// The light entries that are reserved for a step in hand of a session without an open transaction: a Start, a Cancel, the Refuse
+// or the Done, the end of the transaction and the End.
+const LIGHT_ENTRIES: usize = 5;
+
 /// The sessions of one run, over a database that is empty at first. Contracts see the blocks that may be given and the
-/// past of the journal. So far each block has one statement,
-/// which isn't BEGIN, COMMIT or ROLLBACK.
+/// past of the journal. So far each block has one statement.
 #[derive(Debug, Drop)]
 pub struct Engine {
     scripts: Scripts,
-    journal: History,
-    sessions: Vec<Session>,
-    tables: Vec<StoredTable>,
+    machine: Machine,
 }
 
 impl Model for Engine {
     ghost use Rattle.al_history.specs.Past.{past_of};
     ghost use Rattle.al_engine.specs.Ran.{Ran};
-    ghost use Rattle.al_engine.specs.Kept.{IsKept};
+    ghost use Rattle.al_engine.specs.Kept.{IsKept, parts_of};
 
     ghost Value = { Ran };
 
-    ghost view = { λ e. record { scripts = e.scripts; past = past_of e.journal } };
+    ghost view = { λ e. record { scripts = e.scripts; past = past_of e.machine.journal } };
 
-    ghost invariant = { λ e. IsKept e.scripts e.journal e.sessions.items e.tables.items };
+    ghost invariant = { λ e. IsKept e.scripts (parts_of e.machine) };
 }
 
 impl Engine {
@@ -49,11 +49,16 @@ impl Engine {
         let mut journal = History::new(alloc);
         journal.reserve(scripts.sessions as usize)?;
         let sessions = idle_sessions(alloc, scripts.sessions)?;
+        let locks = LockTable::new(alloc, scripts.sessions)?;
         Ok(Engine {
             scripts,
-            journal,
-            sessions,
-            tables: Vec::new(alloc),
+            machine: Machine {
+                journal,
+                sessions,
+                tables: Vec::new(alloc),
+                locks,
+                committed: Vec::new(alloc),
+            },
         })
     }
 
@@ -70,79 +75,89 @@ impl Engine {
     {
         let _ = alloc;
         let at = session as usize;
-        if self.sessions[at].hand.is_some() {
+        let seat = self.machine.sessions[at];
+        if seat.hand.is_some() {
             return Err(Cant::Why(Busy));
         }
-        self.journal.reserve(1 + LIGHT_ENTRIES)?;
-        self.journal.note(Entry::Give { session, block });
-        self.sessions[at] = Session {
+        self.machine.journal.reserve(1 + LIGHT_ENTRIES)?;
+        self.machine.journal.note(Entry::Give { session, block });
+        self.machine.sessions[at] = Session {
             hand: Some(block),
-            closed: false,
+            looked: false,
+            wants: None,
+            ..seat
         };
         Ok(())
     }
 
-    /// Goes on with the session's step in hand.
+    /// Goes on with the session's step in hand. A COMMIT or ROLLBACK takes no memory.
     pub fn turn(&mut self, alloc: Global, session: u32) -> Result<Told, NoMemory>
         requires known { session < self.old.scripts.sessions }
         ensures ok { IfOk result (IsTurned self.old self.new session) }
         ensures err { OnErr result (self.new ≡ self.old) }
+        ensures light { OnErr result (ends_block (in_hand self.old.scripts self.old.past session) ≡ false) }
         ensures legal { IsLegalRun self.new }
     {
-        let at = session as usize;
-        let Session { hand, closed } = self.sessions[at];
-        let Some(block) = hand else {
+        let seat = self.machine.sessions[session as usize];
+        if seat.hand.is_none() {
             return Ok(Told::Idle);
-        };
-        let from = self.journal.len();
-        let statement = statement_at(&self.scripts, block);
-        let ended = run(
-            alloc,
-            &mut self.journal,
-            &mut self.tables,
-            session,
-            statement,
-        )?;
-        self.sessions[at] = Session { hand: None, closed };
-        let to = self.journal.len();
-        let refused = ended.is_refused();
+        }
+        if is_held_up(&self.machine.sessions, seat.wants) {
+            return Ok(Told::Waits);
+        }
+        let from = self.machine.journal.len();
+        let refused = go_on(alloc, &self.scripts, &mut self.machine, session, seat)?;
+        let to = self.machine.journal.len();
         Ok(Told::Went { from, to, refused })
     }
 
     /// The least session that can go on with a step in hand. It takes no memory.
     pub fn ready(&self) -> Option<u32>
-        ensures { IsReady self.now.past result }
+        ensures is { IsReady self.now.past result }
+        ensures known { IfSome result (λ session. session < self.now.scripts.sessions) }
     {
-        first_busy(&self.sessions, self.scripts.sessions)
+        first_ready(&self.machine.sessions, self.scripts.sessions)
+    }
+
+    /// Whether the session has a step in hand. It takes no memory.
+    pub fn is_busy(&self, session: u32) -> bool
+        requires known { session < self.now.scripts.sessions }
+        ensures { result ≡ is_some (hand self.now.past session) }
+    {
+        self.machine.sessions[session as usize].hand.is_some()
     }
 
     /// Ends the session's step in hand, where it has one, with 57014. It takes no memory.
     pub fn cancel(&mut self, session: u32)
         requires known { session < self.old.scripts.sessions }
-        ensures is { self.new ≡ record self.old { past = cancelled session self.old.past } }
-        ensures ended { hand self.new.past session ≡ None }
+        ensures cancels { Cancels self.old self.new session (hand self.old.past session) }
         ensures legal { IsLegalRun self.new }
     {
-        let at = session as usize;
-        let Session { hand, closed } = self.sessions[at];
-        if hand.is_some() {
-            note_cancelled(&mut self.journal, session);
-            self.sessions[at] = Session { hand: None, closed };
+        let seat = self.machine.sessions[session as usize];
+        if seat.hand.is_some() {
+            let entry = self.machine.journal.len();
+            self.machine.journal.note(Entry::Cancel { session });
+            let cause = Cause::Cancelled { entry };
+            refuse(&self.scripts, &mut self.machine, session, seat, cause);
         }
     }
 
-    /// Closes a session that has no step in hand. It takes no memory.
+    /// Closes a session that has no step in hand, and aborts its open transaction. It takes no memory.
     pub fn close_session(&mut self, session: u32)
         requires known { session < self.old.scripts.sessions }
         requires idle { hand self.old.past session ≡ None }
         requires not_closed { closed self.old.past session ≡ false }
-        ensures is { self.new ≡ record self.old { past = Close session ∷ self.old.past } }
+        ensures closes { IsClosed self.old self.new session }
         ensures legal { IsLegalRun self.new }
     {
-        self.journal.note(Entry::Close { session });
-        self.sessions[session as usize] = Session {
-            hand: None,
+        let at = session as usize;
+        let seat = self.machine.sessions[at];
+        abort_open(&self.scripts, &mut self.machine, session, seat);
+        self.machine.journal.note(Entry::Close { session });
+        self.machine.sessions[at] = Session {
+            xact: None,
             closed: true,
+            ..seat
         };
     }
 
@@ -150,7 +165,7 @@ impl Engine {
     pub fn history(&self) -> &History
         ensures { past_of result.now ≡ self.now.past }
     {
-        &self.journal
+        &self.machine.journal
     }
 
     /// The journal of the run.
@@ -160,51 +175,29 @@ impl Engine {
     {
         let Engine {
             scripts: _,
+            machine,
+        } = self;
+        let Machine {
             journal,
             sessions: _,
             tables: _,
-        } = self;
+            locks: _,
+            committed: _,
+        } = machine;
         journal
     }
 }
 
-/// The one statement of a block.
-fn statement_at(scripts: &Scripts, block: u32) -> &Statement
-    requires { option_map has_place (statement_of scripts.now (Some block) 0) ≡ Some true }
-    ensures is { statement_of scripts.now (Some block) 0 ≡ Some result.now }
-    ensures plain { has_place result.now ≡ true }
+/// The open transaction of an idle session is aborted, where it has one.
+fn abort_open(_scripts: &Scripts, machine: &mut Machine, session: u32, seat: Session)
+    requires known { session < _scripts.now.sessions }
+    requires kept { IsKept _scripts.now (parts_of machine.old) }
+    requires seat { slice_get machine.old.sessions.items session ≡ Some seat }
+    requires idle { hand (past_in machine.old) session ≡ None }
+    requires not_closed { closed (past_in machine.old) session ≡ false }
+    ensures { HasLeft _scripts.now (parts_of machine.old) (parts_of machine.new) session seat }
 {
-    let block = scripts.blocks.get(block as usize).unwrap();
-    block.script.get(0).unwrap()
-}
-
-/// Runs one statement as a whole step.
-fn run(
-    alloc: Global,
-    journal: &mut History,
-    tables: &mut Vec<StoredTable>,
-    session: u32,
-    statement: &Statement,
-) -> Result<Ended, NoMemory>
-    requires sound { AreSound 0 (length (past_of journal.old)) tables.old.items }
-    requires room { 4 ≤ journal.old.room }
-    requires plain { has_place statement.now ≡ true }
-    ensures ok { IfOk result (λ ended. IsAfter ended session statement.now (past_of journal.old) (past_of journal.new) tables.old.items tables.new.items) }
-    ensures err { OnErr result (IsBefore (past_of journal.old) (past_of journal.new) tables.old.items tables.new.items) }
-    ensures room { journal.old.room ≤ journal.new.room + 4 }
-    ensures spare { OnErr result (journal.old.room ≤ journal.new.room) }
-{
-    match statement {
-        Statement::Begin | Statement::Commit | Statement::Rollback => unreachable!(),
-        Statement::CreateTable { table, columns } => create_table(
-            alloc, journal, tables, session, table, columns,
-        ),
-        Statement::Insert { table, values } => insert(
-            alloc, journal, tables, session, table, values,
-        ),
-        Statement::Select { table } => select(alloc, journal, tables, session, table),
-        Statement::AddColumn { table, column } => add_column(
-            alloc, journal, tables, session, table, column,
-        ),
+    if let Some(xact) = seat.xact {
+        abort(machine, session, xact);
     }
 }

@@ -4,13 +4,14 @@
 
 mod causes;
 mod engine;
-mod notes;
+mod machine;
 mod sessions;
-mod steps;
+mod statements;
 mod stored;
 #[cfg(test)]
 mod tests;
 mod told;
+mod turns;
 
 pub use engine::Engine;
 pub use told::{Busy, Told};

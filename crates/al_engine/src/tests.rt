@@ -1,17 +1,25 @@
-ghost use Rattle.std.specs.Prelude.{◌≡◌, ◌∷◌, [], IfOk};
-ghost use Rattle.al_engine.specs.Ran.{AreSingle};
+ghost use Rattle.std.specs.Prelude.{◌≡◌, ℕ, ◌∷◌, ◌<◌, [], false, Some, IfOk, OnOk, slice_get, option_map};
+ghost use Rattle.al_history.specs.Hand.{closed};
+ghost use Rattle.al_engine.specs.Ran.{AreSingle, Ran};
 ghost use Rattle.al_history.specs.declared.statement.ScriptBlock.{ScriptBlock};
 
 use crate::{Engine, Told};
-use al_history::{Entry, History, ScriptBlock, Scripts, Statement};
-use al_values::{Copied, ListOf, Name, NameList, NoMemory, Row, Value};
+use al_history::{Column, Entry, History, ScriptBlock, Scripts, Statement};
+use al_values::{ListOf, Name, NameList, NoMemory, Row, Value};
 use std::alloc::Global;
 use std::process::Abort;
 use std::test::Fail;
 
-fn name(alloc: Global, text: &str) -> Result<Name, NoMemory> {
-    Name::new(alloc, text)
-}
+// The blocks, by number.
+const CREATE: u32 = 0;
+
+const BEGIN: u32 = 1;
+
+const ALTER: u32 = 2;
+
+const COMMIT: u32 = 3;
+
+const INSERT: u32 = 4;
 
 fn block(alloc: Global, session: u32, statement: Statement) -> Result<ScriptBlock, NoMemory>
     ensures session { IfOk result (λ b. b.session ≡ session) }
@@ -22,25 +30,104 @@ fn block(alloc: Global, session: u32, statement: Statement) -> Result<ScriptBloc
     Ok(ScriptBlock { session, script })
 }
 
-// CREATE TABLE t (a integer) for session 0, and SELECT * FROM t for session 1.
+fn create(alloc: Global) -> Result<Statement, NoMemory> {
+    let mut columns = NameList::new(alloc);
+    columns.push(Name::new(alloc, "a")?)?;
+    let table = Name::new(alloc, "t")?;
+    Ok(Statement::CreateTable { table, columns })
+}
+
+fn alter(alloc: Global) -> Result<Statement, NoMemory> {
+    let table = Name::new(alloc, "t")?;
+    let name = Name::new(alloc, "b")?;
+    let default = Value::Null;
+    let column = Column { name, default };
+    Ok(Statement::AddColumn { table, column })
+}
+
+fn insert(alloc: Global) -> Result<Statement, NoMemory> {
+    let table = Name::new(alloc, "t")?;
+    let mut values = Row::new(alloc);
+    values.push(Value::Int(7))?;
+    Ok(Statement::Insert { table, values })
+}
+
+// CREATE TABLE t (a integer), BEGIN, ALTER TABLE t ADD COLUMN b integer and COMMIT for session 0, INSERT INTO t VALUES (7) for
+// session 1.
 fn scripts(alloc: Global) -> Result<Scripts, NoMemory>
     ensures sessions { IfOk result (λ s. s.sessions ≡ 2) }
-    ensures blocks { IfOk result (λ s. (a b : ScriptBlock) × (s.blocks ≡ a ∷ b ∷ []) × (a.session ≡ 0) × (b.session ≡ 1)) }
+    ensures blocks { IfOk result (λ s. (a b c d e : ScriptBlock) × (s.blocks ≡ a ∷ b ∷ c ∷ d ∷ e ∷ []) × (a.session ≡ 0) × (b.session ≡ 0) × (c.session ≡ 0) × (d.session ≡ 0) × (e.session ≡ 1)) }
     ensures single { IfOk result AreSingle }
 {
-    let mut columns = NameList::new(alloc);
-    columns.push(name(alloc, "a")?)?;
-    let table = name(alloc, "t")?;
-    let create = block(alloc, 0, Statement::CreateTable { table, columns })?;
-    let table = name(alloc, "t")?;
-    let select = block(alloc, 1, Statement::Select { table })?;
+    let create = block(alloc, 0, create(alloc)?)?;
+    let begin = block(alloc, 0, Statement::Begin)?;
+    let alter = block(alloc, 0, alter(alloc)?)?;
+    let commit = block(alloc, 0, Statement::Commit)?;
+    let insert = block(alloc, 1, insert(alloc)?)?;
     let mut blocks = ListOf::new(alloc);
     blocks.push(create)?;
-    blocks.push(select)?;
+    blocks.push(begin)?;
+    blocks.push(alter)?;
+    blocks.push(commit)?;
+    blocks.push(insert)?;
     Ok(Scripts {
         sessions: 2,
         blocks,
     })
+}
+
+// A turn, which closes no session.
+fn turn(alloc: Global, engine: &mut Engine, session: u32) -> Result<Told, NoMemory>
+    requires known { session < engine.old.scripts.sessions }
+    ensures closed_same { OnOk result ((s : ℕ) → closed engine.new.past s ≡ closed engine.old.past s) }
+    ensures scripts { OnOk result (engine.new.scripts ≡ engine.old.scripts) }
+{
+    match engine.turn(alloc, session)? {
+        Told::Went { from, to, refused } => Ok(Told::Went { from, to, refused }),
+        Told::Waits => Ok(Told::Waits),
+        Told::Idle => Ok(Told::Idle),
+    }
+}
+
+// Turns of whoever can go on, nine at most.
+fn go_on(alloc: Global, engine: &mut Engine) -> Result<(), NoMemory>
+    ensures closed_same { OnOk result ((s : ℕ) → closed engine.new.past s ≡ closed engine.old.past s) }
+    ensures scripts { OnOk result (engine.new.scripts ≡ engine.old.scripts) }
+{
+    for _ in 0..9 {
+        if let Some(session) = engine.ready() {
+            turn(alloc, engine, session)?;
+        }
+    }
+    Ok(())
+}
+
+// A block is given, and whoever can go on does.
+fn run(alloc: Global, engine: &mut Engine, session: u32, block: u32) -> Result<(), NoMemory>
+    requires known { session < engine.old.scripts.sessions }
+    requires of_session { option_map (λ b. b.session) (slice_get engine.old.scripts.blocks block) ≡ Some session }
+    requires open { (s : ℕ) → closed engine.old.past s ≡ false }
+    ensures open { OnOk result ((s : ℕ) → closed engine.new.past s ≡ false) }
+    ensures scripts { OnOk result (engine.new.scripts ≡ engine.old.scripts) }
+{
+    let Ok(()) = engine.give(alloc, session, block) else {
+        return Err(NoMemory);
+    };
+    go_on(alloc, engine)
+}
+
+// The table is there, session 0 has altered it in a block, and the INSERT of session 1 waits.
+fn waiting(alloc: Global) -> Result<Engine, NoMemory>
+    ensures sessions { IfOk result (λ engine. engine.scripts.sessions ≡ 2) }
+    ensures commit { IfOk result (λ engine. option_map (λ b. b.session) (slice_get engine.scripts.blocks 3) ≡ Some 0) }
+    ensures open { IfOk result (λ (engine : Ran). (s : ℕ) → closed engine.past s ≡ false) }
+{
+    let mut engine = Engine::open(alloc, scripts(alloc)?)?;
+    run(alloc, &mut engine, 0, CREATE)?;
+    run(alloc, &mut engine, 0, BEGIN)?;
+    run(alloc, &mut engine, 0, ALTER)?;
+    run(alloc, &mut engine, 1, INSERT)?;
+    Ok(engine)
 }
 
 // The kinds of a journal's entries, a letter for each.
@@ -50,45 +137,76 @@ fn kinds(alloc: Global, history: &History) -> Result<String, NoMemory> {
         text.push(match entry {
             Entry::Give { .. } => 'g',
             Entry::Start { .. } => 's',
+            Entry::Wait { .. } => 'w',
+            Entry::Lock { .. } => 'k',
             Entry::Look { .. } => 'l',
             Entry::Make { .. } => 'm',
+            Entry::Add { .. } => 'i',
             Entry::Read { .. } => 'r',
+            Entry::Alter { .. } => 'a',
             Entry::Done { .. } => 'd',
             Entry::Refuse { .. } => 'f',
             Entry::Commit { .. } => 'c',
+            Entry::Abort { .. } => 'b',
             Entry::Cancel { .. } => 'x',
             Entry::End { .. } => 'e',
             Entry::Close { .. } => 'z',
-            _ => '?',
         })?;
     }
     Ok(text)
 }
 
 #[test]
-fn two_sessions(rt: HostRuntime) -> Result<(), Fail> {
-    let mut engine = Engine::open(rt.alloc(), scripts(rt.alloc())?)?;
+fn waits_and_is_cancelled(rt: HostRuntime) -> Result<(), Fail> {
+    let mut engine = waiting(rt.alloc())?;
     assert_eq!(rt; engine.ready(), None);
-    assert_eq!(rt; engine.turn(rt.alloc(), 0)?, Told::Idle);
-    assert!(rt; engine.give(rt.alloc(), 1, 1).is_ok());
-    assert!(rt; engine.give(rt.alloc(), 1, 1).is_err());
-    assert!(rt; engine.give(rt.alloc(), 0, 0).is_ok());
-    assert_eq!(rt; engine.ready(), Some(0));
+    assert!(rt; engine.is_busy(1));
+    assert_eq!(rt; turn(rt.alloc(), &mut engine, 1)?, Told::Waits);
+    assert_eq!(rt; turn(rt.alloc(), &mut engine, 0)?, Told::Idle);
     engine.cancel(1);
     engine.cancel(1);
-    let told = engine.turn(rt.alloc(), 0)?;
-    assert_eq!(rt;
-        told,
-        Told::Went {
-            from: 5,
-            to: 11,
-            refused: false
-        }
-    );
+    assert!(rt; !engine.is_busy(1));
     assert_eq!(rt; engine.ready(), None);
     assert_eq!(rt;
         kinds(rt.alloc(), engine.history())?.as_str(),
-        "ggxfeslmdce"
+        "gslmdcegsdegkladegswxfbe"
+    );
+    Ok(())
+}
+
+#[test]
+fn waits_for_commit(rt: HostRuntime) -> Result<(), Fail> {
+    let mut engine = waiting(rt.alloc())?;
+    assert!(rt; engine.give(rt.alloc(), 0, COMMIT).is_ok());
+    assert_eq!(rt; engine.ready(), Some(0));
+    let told = turn(rt.alloc(), &mut engine, 0)?;
+    assert_eq!(rt;
+        told,
+        Told::Went {
+            from: 21,
+            to: 25,
+            refused: false
+        }
+    );
+    assert_eq!(rt; engine.ready(), Some(1));
+    go_on(rt.alloc(), &mut engine)?;
+    assert_eq!(rt;
+        kinds(rt.alloc(), engine.history())?.as_str(),
+        "gslmdcegsdegkladegswgckdelidce"
+    );
+    Ok(())
+}
+
+#[test]
+fn waits_for_close(rt: HostRuntime) -> Result<(), Fail> {
+    let mut engine = waiting(rt.alloc())?;
+    assert!(rt; !engine.is_busy(0));
+    engine.close_session(0);
+    assert_eq!(rt; engine.ready(), Some(1));
+    go_on(rt.alloc(), &mut engine)?;
+    assert_eq!(rt;
+        kinds(rt.alloc(), engine.history())?.as_str(),
+        "gslmdcegsdegkladegswbkzlidce"
     );
     Ok(())
 }

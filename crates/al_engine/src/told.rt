@@ -11,9 +11,11 @@ pub enum Told {
         from: u32,
         /// The place after the last.
         to: u32,
-        /// Whether a statement was refused.
+        /// Whether the step's statement was refused.
         refused: bool,
     },
+    /// The session's step in hand waits: somebody blocks it.
+    Waits,
     /// The session has no step in hand.
     Idle,
 }

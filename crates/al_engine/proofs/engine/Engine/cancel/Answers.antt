@@ -1,36 +1,36 @@
-use Rattle.std.proofs.Common.{rules, sym, refl, arith}
-use Rattle.al_engine.proofs.EngineLemmas.{got, is_busy, is_idle, turn_may, cancel_keeps}
+use Rattle.std.proofs.Common.{rules, sym, refl}
+use Rattle.al_engine.proofs.EngineLemmas.{got, is_busy, is_idle, cancel_may, cancel_amid, cancel_refused, cancel_went}
 use Rattle.al_engine.proofs.engine.Engine.cancel.Goals as goal
 
-pub note_cancelled-requires : goal.note_cancelled-requires
-note_cancelled-requires c =
-    let there = got _ _ _ _ _ c.index.result.now c.self.invariant (rw (← c.self.view_is) at c.requires.known) c.index.ensures in
-    let busy = is_busy _ _ _ _ _ _ c.self.invariant there (sym c.if-is_some.ensures) in
-    let may = turn_may _ _ _ _ _ _ _ c.self.invariant there busy.1 in
-    omega (arith, may.1)
+pub note-requires : goal.note-requires
+note-requires c =
+    let there = got _ _ c.self.invariant _ c.index.result.now (rw (← c.self.view_is) at c.requires.known) c.index.ensures in
+    let busy = is_busy _ _ c.self.invariant _ _ there (sym c.if-is_some.ensures) in
+    cancel_may _ _ _ _ _ c.self.invariant there busy.1
 
-pub invariant_of-self : goal.invariant_of-self
-invariant_of-self c =
-    let there = got _ _ _ _ _ c.index.result.now c.self.invariant (rw (← c.self.view_is) at c.requires.known) c.index.ensures in
-    let busy = is_busy _ _ _ _ _ _ c.self.invariant there (sym c.if-is_some.ensures) in
-    cancel_keeps _ _ _ _ _ _ _ _ c.self.invariant there busy.1 c.note_cancelled.ensures.past c.note_cancelled.ensures.room
+pub refuse-requires-clause-amid : goal.refuse-requires-clause-amid
+refuse-requires-clause-amid c =
+    let there = got _ _ c.self.invariant _ c.index.result.now (rw (← c.self.view_is) at c.requires.known) c.index.ensures in
+    let busy = is_busy _ _ c.self.invariant _ _ there (sym c.if-is_some.ensures) in
+    cancel_amid _ _ _ _ _ c.self.invariant there busy.1 c.note.new.self c.note.ensures.past c.note.ensures.room
 
-pub returns-then-is_some-clause-is : goal.returns-then-is_some-clause-is
-returns-then-is_some-clause-is c =
-    let there = got _ _ _ _ _ c.index.result.now c.self.invariant (rw (← c.self.view_is) at c.requires.known) c.index.ensures in
-    let busy = is_busy _ _ _ _ _ _ c.self.invariant there (sym c.if-is_some.ensures) in
-    rw (← c.self.view_is, busy.2, c.note_cancelled.ensures.past) refl
+pub refuse-requires-clause-seat : goal.refuse-requires-clause-seat
+refuse-requires-clause-seat c = got _ _ c.self.invariant _ c.index.result.now (rw (← c.self.view_is) at c.requires.known) c.index.ensures
 
-pub returns-then-is_some-clause-legal : goal.returns-then-is_some-clause-legal
-returns-then-is_some-clause-legal c = (invariant_of-self c).between.legal
+pub refuse-requires-clause-refused : goal.refuse-requires-clause-refused
+refuse-requires-clause-refused c =
+    let there = got _ _ c.self.invariant _ c.index.result.now (rw (← c.self.view_is) at c.requires.known) c.index.ensures in
+    let busy = is_busy _ _ c.self.invariant _ _ there (sym c.if-is_some.ensures) in
+    rw c.len-entry.ensures.past (cancel_refused _ _ _ _ _ c.self.invariant there busy.1 c.note.new.self c.note.ensures.past)
 
-pub returns-else-is_some-clause-is : goal.returns-else-is_some-clause-is
-returns-else-is_some-clause-is c =
-    let there = got _ _ _ _ _ c.index.result.now c.self.invariant (rw (← c.self.view_is) at c.requires.known) c.index.ensures in
-    let idle = is_idle _ _ _ _ _ _ c.self.invariant there (search rules) in
+pub returns-then-is_some-clause-cancels : goal.returns-then-is_some-clause-cancels
+returns-then-is_some-clause-cancels c =
+    let there = got _ _ c.self.invariant _ c.index.result.now (rw (← c.self.view_is) at c.requires.known) c.index.ensures in
+    let busy = is_busy _ _ c.self.invariant _ _ there (sym c.if-is_some.ensures) in
+    rw (← c.self.view_is, busy.2) (cancel_went _ _ _ _ _ c.self.invariant there busy.1 c.note.new.self c.note.ensures.past _ (rw c.len-entry.ensures.past at c.refuse.ensures.exact) c.refuse.ensures.went)
+
+pub returns-else-is_some-clause-cancels : goal.returns-else-is_some-clause-cancels
+returns-else-is_some-clause-cancels c =
+    let there = got _ _ c.self.invariant _ c.index.result.now (rw (← c.self.view_is) at c.requires.known) c.index.ensures in
+    let idle = is_idle _ _ c.self.invariant _ _ there (search rules) in
     rw (← c.self.view_is, idle) refl
-
-pub returns-else-is_some-clause-ended : goal.returns-else-is_some-clause-ended
-returns-else-is_some-clause-ended c =
-    let there = got _ _ _ _ _ c.index.result.now c.self.invariant (rw (← c.self.view_is) at c.requires.known) c.index.ensures in
-    rw (← c.self.view_is) (is_idle _ _ _ _ _ _ c.self.invariant there (search rules))

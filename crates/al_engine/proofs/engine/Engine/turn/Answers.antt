@@ -1,31 +1,36 @@
-use Rattle.std.proofs.Common.{refl}
-use Rattle.al_engine.proofs.EngineLemmas.{got, is_idle, turn_may, turn_keeps, turn_went}
+use Rattle.std.proofs.lemmas.Result.{err_from_is_err_and}
+use Rattle.std.proofs.Common.{sym, refl}
+use Rattle.al_engine.proofs.EngineLemmas.{got, statement_there, is_idle, goes, waits_by, same_keeps, turn_went}
 use Rattle.al_engine.proofs.engine.Engine.turn.Goals as goal
 
-pub returns-in_default-clause-ok : goal.returns-in_default-clause-ok
-returns-in_default-clause-ok c =
-    let there = got _ _ _ _ _ c.index.result.now c.self.invariant (rw (← c.self.view_is) at c.requires.known) c.index.ensures in
-    record { same = refl; none = rw (← c.self.view_is) (is_idle _ _ _ _ _ _ c.self.invariant there (rw c.in_default.is refl)) }
+pub returns-then-is_none-clause-ok : goal.returns-then-is_none-clause-ok
+returns-then-is_none-clause-ok c =
+    let there = got _ _ c.self.invariant _ c.index.result.now (rw (← c.self.view_is) at c.requires.known) c.index.ensures in
+    record { same = refl; none = rw (← c.self.view_is) (is_idle _ _ c.self.invariant _ _ there c.if-is_none.ensures) }
 
-pub statement_at-statement-requires : goal.statement_at-statement-requires
-statement_at-statement-requires c =
-    let there = got _ _ _ _ _ c.index.result.now c.self.invariant (rw (← c.self.view_is) at c.requires.known) c.index.ensures in
-    (turn_may _ _ _ _ _ _ _ c.self.invariant there c.in-Some.is).0
+pub returns-then-is_held_up-clause-ok : goal.returns-then-is_held_up-clause-ok
+returns-then-is_held_up-clause-ok c =
+    let there = got _ _ c.self.invariant _ c.index.result.now (rw (← c.self.view_is) at c.requires.known) c.index.ensures in
+    rw (← c.self.view_is) (waits_by _ _ c.self.invariant _ _ there c.if-is_none.ensures (sym (rw c.deref.ensures.value at c.if-is_held_up.ensures)))
 
-pub run-requires-clause-room : goal.run-requires-clause-room
-run-requires-clause-room c =
-    let there = got _ _ _ _ _ c.index.result.now c.self.invariant (rw (← c.self.view_is) at c.requires.known) c.index.ensures in
-    (turn_may _ _ _ _ _ _ _ c.self.invariant there c.in-Some.is).1
+pub go_on-requires-clause-seat : goal.go_on-requires-clause-seat
+go_on-requires-clause-seat c = got _ _ c.self.invariant _ c.index.result.now (rw (← c.self.view_is) at c.requires.known) c.index.ensures
 
-pub invariant_of-self-2 : goal.invariant_of-self-2
-invariant_of-self-2 c =
-    let there = got _ _ _ _ _ c.index.result.now c.self.invariant (rw (← c.self.view_is) at c.requires.known) c.index.ensures in
-    turn_keeps _ _ _ _ _ _ _ _ _ c.statement_at-statement.result.now c.in_ok-ended.ended c.self.invariant there c.in-Some.is c.statement_at-statement.ensures.is c.statement_at-statement.ensures.plain c.in_ok-ended.ensures.ok c.in_ok-ended.ensures.room
+pub go_on-requires-clause-goes : goal.go_on-requires-clause-goes
+go_on-requires-clause-goes c =
+    let there = got _ _ c.self.invariant _ c.index.result.now (rw (← c.self.view_is) at c.requires.known) c.index.ensures in
+    goes _ _ c.self.invariant _ _ there c.if-is_none.ensures (sym (rw c.deref.ensures.value at c.if-is_held_up.ensures))
+
+pub invariant_of-self : goal.invariant_of-self
+invariant_of-self c = same_keeps _ _ _ c.in_err-refused.ensures.err c.self.invariant
 
 pub returns-clause-ok : goal.returns-clause-ok
 returns-clause-ok c =
-    let there = got _ _ _ _ _ c.index.result.now c.self.invariant (rw (← c.self.view_is) at c.requires.known) c.index.ensures in
-    rw (← c.self.view_is, c.len-from.ensures.past, c.len-to.ensures.past, c.is_refused-refused.ensures) (turn_went _ _ c.run.new.journal _ _ _ _ _ _ c.statement_at-statement.result.now c.in_ok-ended.ended c.self.invariant there c.in-Some.is c.statement_at-statement.ensures.is c.statement_at-statement.ensures.plain c.in_ok-ended.ensures.ok)
+    let there = got _ _ c.self.invariant _ c.index.result.now (rw (← c.self.view_is) at c.requires.known) c.index.ensures in
+    rw (← c.self.view_is, c.len-from.ensures.past, c.len-to.ensures.past) (turn_went _ _ _ _ _ _ c.self.invariant there c.if-is_none.ensures (sym (rw c.deref.ensures.value at c.if-is_held_up.ensures)) c.in_ok-refused.ensures.went)
 
-pub returns-clause-legal : goal.returns-clause-legal
-returns-clause-legal c = (invariant_of-self-2 c).between.legal
+pub returns-in_err-refused-clause-light : goal.returns-in_err-refused-clause-light
+returns-in_err-refused-clause-light c =
+    let there = got _ _ c.self.invariant _ c.index.result.now (rw (← c.self.view_is) at c.requires.known) c.index.ensures in
+    let lack = err_from_is_err_and c.from_residual.result c.from_residual.ensures.1 in
+    rw (lack.1, ← c.self.view_is, statement_there _ _ c.self.invariant _ _ there c.if-is_none.ensures) c.in_err-refused.ensures.light

@@ -1,0 +1,195 @@
+//! What is kept of a run beside its blocks, and how statements and transactions end in it.
+ghost use Rattle.std.specs.Prelude.{◌≡◌, ◌+◌, ◌<◌, ◌≤◌, ◌∷◌, Some, None, true, false, length, slice_get, slice_set};
+ghost use Rattle.al_history.specs.declared.entry.Entry.TheVariants.{Commit, Abort, Refuse, End};
+ghost use Rattle.al_history.specs.Made.{row_entries};
+ghost use Rattle.al_history.specs.Hand.{failed_at};
+ghost use Rattle.al_history.specs.Past.{past_of};
+ghost use Rattle.al_history.specs.Tail.{owed};
+ghost use Rattle.al_history.specs.Whole.{driver, IsLeast, IsTurn};
+ghost use Rattle.al_history.proofs.Turns.{Went};
+ghost use Rattle.al_queue.specs.Walk.{walked, released};
+ghost use Rattle.al_queue.specs.Settled.{IsSettled, HandsOn};
+ghost use Rattle.al_engine.specs.LockTie.{locked_by};
+ghost use Rattle.al_engine.specs.Sessions.{state_of, xact_in, wakened, woken};
+ghost use Rattle.al_engine.specs.Ran.{IsAborted};
+ghost use Rattle.al_engine.specs.Kept.{parts_of, past_in, IsAmid, IsClear, IsKept, CanBeDone, CanBeRefused, IsRefused, used_by};
+
+use crate::sessions::{Block, Session};
+use crate::stored::StoredTable;
+use al_history::{Cause, Entry, History, Reply, Scripts};
+use al_queue::{Grant, LockTable};
+
+/// What is kept of a run beside its blocks.
+#[derive(Debug, Drop)]
+pub struct Machine {
+    /// The journal.
+    pub journal: History,
+    /// The sessions.
+    pub sessions: Vec<Session>,
+    /// All that was ever made.
+    pub tables: Vec<StoredTable>,
+    /// The locks of tables, by session.
+    pub locks: LockTable,
+    /// For each place of the journal, whether the transaction of that place is committed.
+    pub committed: Vec<bool>,
+}
+
+/// The open transaction of a session, 0 where it has none.
+fn xact_in(sessions: &[Session], session: u32) -> u32
+    ensures { result ≡ xact_in sessions.now session }
+{
+    match sessions.get(session as usize) {
+        Some(seat) => seat.xact.unwrap_or(0),
+        None => 0,
+    }
+}
+
+/// A session waits no more.
+fn wake(sessions: &mut Vec<Session>, session: u32)
+    ensures { sessions.new.items ≡ wakened session sessions.old.items }
+{
+    if let Some(seat) = sessions.get_mut(session as usize) {
+        seat.wants = None;
+    }
+}
+
+/// A session's locks become free, and its waiting request is taken back; the requests that can be granted then are, by ascending
+/// table number.
+fn end_claims(machine: &mut Machine, session: u32)
+    requires known { session < machine.old.locks.sessions }
+    requires room { length machine.old.locks.locks.waiting ≤ machine.old.journal.room }
+    ensures locks { machine.new.locks ≡ record { sessions = machine.old.locks.sessions; locks = walked (released machine.old.locks.locks session) } }
+    ensures past { past_in machine.new ≡ locked_by (xact_in machine.old.sessions.items) machine.new.locks.locks.granted (past_in machine.old) }
+    ensures sessions { machine.new.sessions.items ≡ woken machine.new.locks.locks.granted machine.old.sessions.items }
+    ensures room { machine.new.journal.room + length machine.new.locks.locks.granted ≡ machine.old.journal.room }
+    ensures tables { machine.new.tables.items ≡ machine.old.tables.items }
+    ensures committed { machine.new.committed.items ≡ machine.old.committed.items }
+    ensures settled { IsSettled machine.new.locks.locks }
+    ensures hands_on { HandsOn (released machine.old.locks.locks session) machine.new.locks.locks }
+{
+    let count = machine.locks.release(session);
+    for i in 0..count {
+        let Grant {
+            session: other,
+            table,
+            mode,
+        } = machine.locks.granted(i);
+        let xact = xact_in(&machine.sessions, other);
+        machine.journal.note(Entry::Lock { xact, table, mode });
+        wake(&mut machine.sessions, other);
+    }
+}
+
+/// A session's open transaction is committed.
+pub fn commit(machine: &mut Machine, session: u32, xact: u32)
+    requires known { session < machine.old.locks.sessions }
+    requires room { length machine.old.locks.locks.waiting + 1 ≤ machine.old.journal.room }
+    requires marked { xact < length machine.old.committed.items }
+    ensures locks { machine.new.locks ≡ record { sessions = machine.old.locks.sessions; locks = walked (released machine.old.locks.locks session) } }
+    ensures past { past_in machine.new ≡ locked_by (xact_in machine.old.sessions.items) machine.new.locks.locks.granted (Commit xact ∷ past_in machine.old) }
+    ensures sessions { machine.new.sessions.items ≡ woken machine.new.locks.locks.granted machine.old.sessions.items }
+    ensures room { machine.new.journal.room + length machine.new.locks.locks.granted + 1 ≡ machine.old.journal.room }
+    ensures tables { machine.new.tables.items ≡ machine.old.tables.items }
+    ensures committed { machine.new.committed.items ≡ slice_set machine.old.committed.items xact true }
+    ensures settled { IsSettled machine.new.locks.locks }
+    ensures hands_on { HandsOn (released machine.old.locks.locks session) machine.new.locks.locks }
+{
+    machine.journal.note(Entry::Commit { xact });
+    machine.committed[xact as usize] = true;
+    end_claims(machine, session);
+}
+
+/// A session's open transaction is aborted.
+pub fn abort(machine: &mut Machine, session: u32, xact: u32)
+    requires known { session < machine.old.locks.sessions }
+    requires room { length machine.old.locks.locks.waiting + 1 ≤ machine.old.journal.room }
+    ensures locks { machine.new.locks ≡ record { sessions = machine.old.locks.sessions; locks = walked (released machine.old.locks.locks session) } }
+    ensures past { past_in machine.new ≡ locked_by (xact_in machine.old.sessions.items) machine.new.locks.locks.granted (Abort xact ∷ past_in machine.old) }
+    ensures sessions { machine.new.sessions.items ≡ woken machine.new.locks.locks.granted machine.old.sessions.items }
+    ensures room { machine.new.journal.room + length machine.new.locks.locks.granted + 1 ≡ machine.old.journal.room }
+    ensures tables { machine.new.tables.items ≡ machine.old.tables.items }
+    ensures committed { machine.new.committed.items ≡ machine.old.committed.items }
+    ensures settled { IsSettled machine.new.locks.locks }
+    ensures hands_on { HandsOn (released machine.old.locks.locks session) machine.new.locks.locks }
+{
+    machine.journal.note(Entry::Abort { xact });
+    end_claims(machine, session);
+}
+
+/// The statement in hand is done with this reply: its step ends, and with it an implicit transaction.
+pub fn done(_scripts: &Scripts, machine: &mut Machine, session: u32, seat: Session, reply: Reply)
+    requires known { session < _scripts.now.sessions }
+    requires amid { IsAmid _scripts.now (parts_of machine.old) session 0 }
+    requires clear { IsClear _scripts.now (past_in machine.old) }
+    requires seat { slice_get machine.old.sessions.items session ≡ Some seat }
+    requires done { CanBeDone _scripts.now (past_in machine.old) session seat reply }
+    ensures kept { IsKept _scripts.now (parts_of machine.new) }
+    ensures rows { row_entries (past_in machine.new) ≡ row_entries (past_in machine.old) }
+    ensures went { Went _scripts.now session (past_in machine.old) (past_in machine.new) false (driver (past_in machine.old)) (IsLeast (past_in machine.old) session) }
+{
+    machine.journal.note(Entry::Done { session, reply });
+    if let (Block::Outside, Some(xact)) = (seat.block, seat.xact) {
+        commit(machine, session, xact);
+        end_step(machine, session, Session { xact: None, ..seat });
+    } else {
+        end_step(machine, session, seat);
+    }
+}
+
+/// The statement in hand is refused for this cause: its transaction is aborted, where one is open, its open block fails, and its
+/// step ends.
+pub fn refuse(_scripts: &Scripts, machine: &mut Machine, session: u32, seat: Session, cause: Cause)
+    requires known { session < _scripts.now.sessions }
+    requires amid { IsAmid _scripts.now (parts_of machine.old) session (used_by cause) }
+    requires seat { slice_get machine.old.sessions.items session ≡ Some seat }
+    requires refused { CanBeRefused _scripts.now (past_in machine.old) session seat cause }
+    ensures kept { IsKept _scripts.now (parts_of machine.new) }
+    ensures exact { IsRefused (past_in machine.old) (past_in machine.new) session seat.xact cause }
+    ensures went { Went _scripts.now session (past_in machine.old) (past_in machine.new) true (driver (past_in machine.old)) (IsTurn (owed _scripts.now (past_in machine.old)) (past_in machine.old) session) }
+{
+    let place = machine.journal.len();
+    machine.journal.note(Entry::Refuse { session, cause });
+    if let Some(xact) = seat.xact {
+        abort(machine, session, xact);
+    }
+    let block = failed(seat.block, place);
+    end_step(
+        machine,
+        session,
+        Session {
+            xact: None,
+            block,
+            ..seat
+        },
+    );
+}
+
+/// A block after a refusal at this place.
+fn failed(block: Block, place: u32) -> Block
+    ensures { state_of result ≡ failed_at place (state_of block) }
+{
+    match block {
+        Block::Open => Block::Failed { refuse: place },
+        other => other,
+    }
+}
+
+/// The step in hand ends.
+pub fn end_step(machine: &mut Machine, session: u32, seat: Session)
+    requires known { session < length machine.old.sessions.items }
+    requires room { 0 < machine.old.journal.room }
+    ensures past { past_in machine.new ≡ End session ∷ past_in machine.old }
+    ensures sessions { machine.new.sessions.items ≡ slice_set machine.old.sessions.items session (record seat { hand = None; looked = false; wants = None }) }
+    ensures room { machine.new.journal.room + 1 ≡ machine.old.journal.room }
+    ensures tables { machine.new.tables.items ≡ machine.old.tables.items }
+    ensures locks { machine.new.locks ≡ machine.old.locks }
+    ensures committed { machine.new.committed.items ≡ machine.old.committed.items }
+{
+    machine.journal.note(Entry::End { session });
+    machine.sessions[session as usize] = Session {
+        hand: None,
+        looked: false,
+        wants: None,
+        ..seat
+    };
+}

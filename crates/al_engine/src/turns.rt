@@ -1,0 +1,263 @@
+//! A turn of a session that can go on: a transaction begins or ends, or the statement in hand goes on.
+ghost use Rattle.std.specs.Prelude.{◌≡◌, ◌<◌, ◌++◌, ◌-◌, true, false, cond, Some, None, IsSome, IfOk, OnOk, OnErr, slice_get, length, option_map, replicate};
+ghost use Rattle.al_history.specs.declared.entry.Tag.TheVariants as tags;
+ghost use Rattle.al_history.specs.declared.statement.Statement.TheVariants as statements;
+ghost use Rattle.al_history.specs.Hand.{NoBlock, opened, statement_of};
+ghost use Rattle.al_history.specs.Rules.{starts, commit_tag};
+ghost use Rattle.al_history.specs.Whole.{driver, IsLeast};
+ghost use Rattle.al_history.specs.Waits.{can_go_on};
+ghost use Rattle.al_history.proofs.Turns.{Went};
+ghost use Rattle.al_engine.specs.Sessions.{state_of};
+ghost use Rattle.al_engine.specs.Ran.{ends_block};
+ghost use Rattle.al_engine.specs.Ended.{IsEnded};
+ghost use Rattle.al_engine.specs.Kept.{parts_of, past_in, IsKept, IsSame};
+
+use crate::machine::{Machine, abort, commit, end_step, refuse};
+use crate::sessions::{Block, Session};
+use crate::statements::{add_column, create_table, insert, select};
+use al_history::{Cause, Entry, Level, Reply, Scripts, Statement, Tag};
+use al_values::NoMemory;
+use std::alloc::Global;
+
+/// Goes on with the step in hand of a session that isn't held up. It tells whether its statement was refused.
+pub fn go_on(
+    alloc: Global,
+    scripts: &Scripts,
+    machine: &mut Machine,
+    session: u32,
+    seat: Session,
+) -> Result<bool, NoMemory>
+    requires known { session < scripts.now.sessions }
+    requires kept { IsKept scripts.now (parts_of machine.old) }
+    requires seat { slice_get machine.old.sessions.items session ≡ Some seat }
+    requires goes { can_go_on (past_in machine.old) session ≡ true }
+    ensures kept { OnOk result (IsKept scripts.now (parts_of machine.new)) }
+    ensures went { IfOk result (λ refused. Went scripts.now session (past_in machine.old) (past_in machine.new) refused (driver (past_in machine.old)) (IsLeast (past_in machine.old) session)) }
+    ensures light { OnErr result (ends_block (statement_of scripts.now seat.hand 0) ≡ false) }
+    ensures err { OnErr result (IsSame (parts_of machine.old) (parts_of machine.new)) }
+{
+    let statement = statement_at(scripts, seat);
+    match statement {
+        Statement::Commit => {
+            end_block(scripts, machine, session, seat, true);
+            Ok(false)
+        }
+        Statement::Rollback => {
+            end_block(scripts, machine, session, seat, false);
+            Ok(false)
+        }
+        other => go_on_in_block(alloc, scripts, machine, session, seat, other),
+    }
+}
+
+/// Goes on with a statement that isn't COMMIT or ROLLBACK: in a failed block it is refused, and where no transaction is open one
+/// begins.
+fn go_on_in_block(
+    alloc: Global,
+    scripts: &Scripts,
+    machine: &mut Machine,
+    session: u32,
+    seat: Session,
+    statement: &Statement,
+) -> Result<bool, NoMemory>
+    requires known { session < scripts.now.sessions }
+    requires kept { IsKept scripts.now (parts_of machine.old) }
+    requires seat { slice_get machine.old.sessions.items session ≡ Some seat }
+    requires goes { can_go_on (past_in machine.old) session ≡ true }
+    requires statement { statement_of scripts.now seat.hand 0 ≡ Some statement.now }
+    requires goes_on { starts NoBlock statement.now ≡ true }
+    ensures kept { OnOk result (IsKept scripts.now (parts_of machine.new)) }
+    ensures went { IfOk result (λ refused. Went scripts.now session (past_in machine.old) (past_in machine.new) refused (driver (past_in machine.old)) (IsLeast (past_in machine.old) session)) }
+    ensures err { OnErr result (IsSame (parts_of machine.old) (parts_of machine.new)) }
+{
+    if let Block::Failed { refuse: place } = seat.block {
+        let cause = Cause::BlockFailed { refuse: place };
+        refuse(scripts, machine, session, seat, cause);
+        return Ok(true);
+    }
+    match seat.xact {
+        Some(xact) => run(alloc, scripts, machine, session, seat, xact, statement),
+        None => {
+            begin(scripts, machine, session, seat)?;
+            Ok(false)
+        }
+    }
+}
+
+/// Goes on with a statement of an open transaction.
+fn run(
+    alloc: Global,
+    scripts: &Scripts,
+    machine: &mut Machine,
+    session: u32,
+    seat: Session,
+    xact: u32,
+    statement: &Statement,
+) -> Result<bool, NoMemory>
+    requires known { session < scripts.now.sessions }
+    requires kept { IsKept scripts.now (parts_of machine.old) }
+    requires seat { slice_get machine.old.sessions.items session ≡ Some seat }
+    requires goes { can_go_on (past_in machine.old) session ≡ true }
+    requires in_xact { seat.xact ≡ Some xact }
+    requires statement { statement_of scripts.now seat.hand 0 ≡ Some statement.now }
+    requires goes_on { starts NoBlock statement.now ≡ true }
+    ensures kept { OnOk result (IsKept scripts.now (parts_of machine.new)) }
+    ensures went { IfOk result (λ refused. Went scripts.now session (past_in machine.old) (past_in machine.new) refused (driver (past_in machine.old)) (IsLeast (past_in machine.old) session)) }
+    ensures err { OnErr result (IsSame (parts_of machine.old) (parts_of machine.new)) }
+{
+    match statement {
+        Statement::Commit | Statement::Rollback => unreachable!(),
+        Statement::Begin => {
+            begin_block(scripts, machine, session, seat);
+            Ok(false)
+        }
+        Statement::CreateTable { table, columns } => create_table(
+            alloc, scripts, machine, session, seat, xact, table, columns,
+        ),
+        Statement::Insert { table, values } => insert(
+            alloc, scripts, machine, session, seat, xact, table, values,
+        ),
+        Statement::Select { table } => select(alloc, scripts, machine, session, seat, xact, table),
+        Statement::AddColumn { table, column } => add_column(
+            alloc, scripts, machine, session, seat, xact, table, column,
+        ),
+    }
+}
+
+/// The one statement of a session's step in hand.
+fn statement_at(scripts: &Scripts, seat: Session) -> &Statement
+    requires { IsSome (statement_of scripts.now seat.hand 0) }
+    ensures { statement_of scripts.now seat.hand 0 ≡ Some result.now }
+{
+    let block = seat.hand.unwrap();
+    let block = scripts.blocks.get(block as usize).unwrap();
+    block.script.get(0).unwrap()
+}
+
+/// A transaction begins.
+fn begin(
+    _scripts: &Scripts,
+    machine: &mut Machine,
+    session: u32,
+    seat: Session,
+) -> Result<(), NoMemory>
+    requires known { session < _scripts.now.sessions }
+    requires kept { IsKept _scripts.now (parts_of machine.old) }
+    requires seat { slice_get machine.old.sessions.items session ≡ Some seat }
+    requires goes { can_go_on (past_in machine.old) session ≡ true }
+    requires statement { option_map (starts (state_of seat.block)) (statement_of _scripts.now seat.hand 0) ≡ Some true }
+    requires none_open { seat.xact ≡ None }
+    ensures kept { OnOk result (IsKept _scripts.now (parts_of machine.new)) }
+    ensures went { OnOk result (Went _scripts.now session (past_in machine.old) (past_in machine.new) false (driver (past_in machine.old)) (IsLeast (past_in machine.old) session)) }
+    ensures err { OnErr result (IsSame (parts_of machine.old) (parts_of machine.new)) }
+{
+    let xact = machine.journal.len();
+    reach(&mut machine.committed, xact as usize + 1)?;
+    let level = Level::ReadCommitted;
+    machine.journal.note(Entry::Start { session, level });
+    machine.sessions[session as usize] = Session {
+        xact: Some(xact),
+        wants: None,
+        ..seat
+    };
+    Ok(())
+}
+
+/// Makes a list of marks at least so long. The new ones aren't set.
+fn reach(marks: &mut Vec<bool>, count: usize) -> Result<(), NoMemory>
+    ensures ok { OnOk result (marks.new.items ≡ marks.old.items ++ replicate (count - length marks.old.items) false) }
+    ensures err { OnErr result (marks.new.items ≡ marks.old.items) }
+{
+    if marks.len() >= count {
+        return Ok(());
+    }
+    let more = count - marks.len();
+    marks.reserve(more)?;
+    for _mark in 0..more {
+        marks.push_reserved(false);
+    }
+    Ok(())
+}
+
+/// BEGIN opens a block, where none is.
+fn opened(block: Block) -> Block
+    ensures { state_of result ≡ opened (state_of block) }
+{
+    match block {
+        Block::Outside => Block::Open,
+        other => other,
+    }
+}
+
+/// What COMMIT and ROLLBACK answer: a failed block is rolled back.
+fn end_tag(block: Block, commits: bool) -> Tag
+    ensures { result ≡ cond commits (commit_tag (state_of block)) tags.Rollback }
+{
+    match block {
+        Block::Outside | Block::Open if commits => Tag::Commit,
+        _ => Tag::Rollback,
+    }
+}
+
+/// BEGIN is done: the session's open transaction is a block from now on.
+fn begin_block(_scripts: &Scripts, machine: &mut Machine, session: u32, seat: Session)
+    requires known { session < _scripts.now.sessions }
+    requires kept { IsKept _scripts.now (parts_of machine.old) }
+    requires seat { slice_get machine.old.sessions.items session ≡ Some seat }
+    requires goes { can_go_on (past_in machine.old) session ≡ true }
+    requires in_xact { IsSome seat.xact }
+    requires statement { statement_of _scripts.now seat.hand 0 ≡ Some statements.Begin }
+    ensures kept { IsKept _scripts.now (parts_of machine.new) }
+    ensures went { Went _scripts.now session (past_in machine.old) (past_in machine.new) false (driver (past_in machine.old)) (IsLeast (past_in machine.old) session) }
+{
+    let tag = Tag::Begin;
+    machine.journal.note(Entry::Done {
+        session,
+        reply: Reply::Tag { tag, count: 0 },
+    });
+    let block = opened(seat.block);
+    end_step(machine, session, Session { block, ..seat });
+}
+
+/// COMMIT or ROLLBACK is done: the session's open transaction ends, where it has one, and its block.
+fn end_block(_scripts: &Scripts, machine: &mut Machine, session: u32, seat: Session, commits: bool)
+    requires known { session < _scripts.now.sessions }
+    requires kept { IsKept _scripts.now (parts_of machine.old) }
+    requires seat { slice_get machine.old.sessions.items session ≡ Some seat }
+    requires goes { can_go_on (past_in machine.old) session ≡ true }
+    requires statement { statement_of _scripts.now seat.hand 0 ≡ Some (cond commits statements.Commit statements.Rollback) }
+    ensures kept { IsKept _scripts.now (parts_of machine.new) }
+    ensures went { Went _scripts.now session (past_in machine.old) (past_in machine.new) false (driver (past_in machine.old)) (IsLeast (past_in machine.old) session) }
+{
+    end_xact(_scripts, machine, session, seat, commits);
+    let tag = end_tag(seat.block, commits);
+    machine.journal.note(Entry::Done {
+        session,
+        reply: Reply::Tag { tag, count: 0 },
+    });
+    end_step(
+        machine,
+        session,
+        Session {
+            xact: None,
+            block: Block::Outside,
+            ..seat
+        },
+    );
+}
+
+/// The session's open transaction ends by COMMIT or ROLLBACK, where it has one.
+fn end_xact(_scripts: &Scripts, machine: &mut Machine, session: u32, seat: Session, commits: bool)
+    requires known { session < _scripts.now.sessions }
+    requires kept { IsKept _scripts.now (parts_of machine.old) }
+    requires seat { slice_get machine.old.sessions.items session ≡ Some seat }
+    requires goes { can_go_on (past_in machine.old) session ≡ true }
+    requires statement { statement_of _scripts.now seat.hand 0 ≡ Some (cond commits statements.Commit statements.Rollback) }
+    ensures { IsEnded _scripts.now (parts_of machine.new) session seat (past_in machine.old) commits }
+{
+    match seat.xact {
+        None => {}
+        Some(xact) if commits => commit(machine, session, xact),
+        Some(xact) => abort(machine, session, xact),
+    }
+}
