@@ -1,6 +1,6 @@
 -- What the loops of the reader keep.
 use Rattle.std.proofs.Common.{◌≡◌, ℕ, zero, suc, ◌+◌, ◌-◌, ◌<◌, ◌≤◌, Bool, true, false, cond, List, [], ◌∷◌, ◌++◌, length, get_or, drop, Option, Some, None, refl, sym, ap, ◌∙◌, le-leb, add-one, drop-cons, arith}
-use Rattle.std.specs.Prelude.{nat_le, position, is_some}
+use Rattle.std.specs.Prelude.{nat_le}
 use Rattle.std.proofs.lemmas.Option.{some_pair_parts}
 use Rattle.std.proofs.Math.ListN.{drop_of_length-le}
 use Rattle.al_history.specs.declared.spec.Block.{Block}
@@ -13,8 +13,8 @@ use Rattle.al_values.specs.declared.cant.Cant.TheVariants as cants
 use Rattle.al_history.specs.declared.spec.SpecFault.{SpecFault}
 use Rattle.al_app.specs.declared.first.inside.Lexeme.{Lexeme}
 use Rattle.al_app.specs.FirstSteps.{Fails}
-use Rattle.al_app.specs.First.{is_name, is_reserved, Step, setup_block, step_block, is_step}
-use Rattle.al_app.specs.FirstReading.{comma_at, listed_at, each_from, setup_at, setups_from, step_at, steps_from}
+use Rattle.al_app.specs.First.{is_name, is_reserved, Step, setup_block}
+use Rattle.al_app.specs.FirstReading.{comma_at, listed_at, each_from, setup_at, setups_from, session_at, step_at, SoFar, with_session, with_step, sessions_from}
 
 -- an error goes on from a step to the whole
 pub passes_on : {A B : Type 0} (e : Cant SpecFault) (step : Option A) (whole : Option B) → (step ≡ None → whole ≡ None) → Fails e step → Fails e whole
@@ -124,7 +124,7 @@ pub each_ends : {A B : Type 0} (f : A → Option B) (front : List B) (xs : List 
 unfolding each_from
 each_ends f front xs i all le so_far = sym so_far ∙ ap (each_from f front) (drop_of_length-le xs le)
 
--- ---- setup blocks and steps
+-- ---- setup blocks, sessions and steps
 
 pub setups_go_on : (front new : List Block) (ts : List Token) (text : List ℕ) (after : List Token) (block : Block) (all : List Block × List Token) → Some (text, after) ≡ setup_at ts → block ≡ setup_block text → new ≡ front ++ block ∷ []
     → setups_from front ts ≡ all → setups_from new after ≡ all
@@ -139,31 +139,40 @@ unfolding setup_at setups_from
 setups_end front (tokens.Setup ∷ tokens.Block t ∷ ts) e = absurd cc
 setups_end front ts e = refl
 
-steps_turn : (front : List Block) (n t : List ℕ) (ts : List Token) (b : Bool) → is_some (position (is_step n) front) ≡ b
-    → steps_from front (tokens.Step ∷ tokens.Name n ∷ tokens.Block t ∷ ts) ≡ cond b None (steps_from (front ++ step_block (record { name = n; text = t }) ∷ []) ts)
-unfolding steps_from
-steps_turn front n t ts b e = rw e refl
+pub session_goes_on : (read new : SoFar) (ts : List Token) (name : List ℕ) (after : List Token) (all : Option (SoFar × List Token)) → Some (name, after) ≡ session_at ts → with_session name read ≡ Some new → sessions_from read ts ≡ all → sessions_from new after ≡ all
+unfolding session_at sessions_from
+session_goes_on read new (tokens.Session ∷ tokens.Name n ∷ ts) name after all is e so_far =
+    let p = some_pair_parts _ _ _ _ is in
+    let f : with_session n read ≡ Some new = ap (λ (m : List ℕ). with_session m read) (sym p.0) ∙ e in
+    rw p.1 (sym (rw f refl) ∙ so_far)
+session_goes_on read new ts name after all is e so_far = absurd cc
 
-pub steps_go_on : (front new : List Block) (ts : List Token) (name text : List ℕ) (after : List Token) (block : Block) (all : Option (List Block × List Token)) → Some (record { name = name; text = text }, after) ≡ step_at ts → is_some (position (is_step name) front) ≡ false → block ≡ step_block (record { name = name; text = text }) → new ≡ front ++ block ∷ []
-    → steps_from front ts ≡ all → steps_from new after ≡ all
-unfolding step_at
-steps_go_on front new (tokens.Step ∷ tokens.Name n ∷ tokens.Block t ∷ ts) name text after block all e free is more so_far =
-    let p = some_pair_parts _ _ _ _ e in
-    let n-is : name ≡ n = ap (λ (s : Step). s.name) p.0 in
-    let t-is : text ≡ t = ap (λ (s : Step). s.text) p.0 in
-    rw (more, is, n-is, t-is, p.1) (sym (steps_turn front n t ts false (rw (← n-is) free)) ∙ so_far)
-steps_go_on front new ts name text after block all e free is more so_far = absurd cc
+pub session_fails : (read : SoFar) (ts : List Token) (name : List ℕ) (after : List Token) (all : Option (SoFar × List Token)) → Some (name, after) ≡ session_at ts → sessions_from read ts ≡ all → with_session name read ≡ None → all ≡ None
+unfolding session_at sessions_from
+session_fails read (tokens.Session ∷ tokens.Name n ∷ ts) name after all is so_far e =
+    let p = some_pair_parts _ _ _ _ is in
+    let f : with_session n read ≡ None = ap (λ (m : List ℕ). with_session m read) (sym p.0) ∙ e in
+    sym so_far ∙ rw f refl
+session_fails read ts name after all is so_far e = absurd cc
 
-pub steps_clash : (front : List Block) (ts : List Token) (name text : List ℕ) (after : List Token) (all : Option (List Block × List Token)) → Some (record { name = name; text = text }, after) ≡ step_at ts → is_some (position (is_step name) front) ≡ true
-    → steps_from front ts ≡ all → all ≡ None
-unfolding step_at
-steps_clash front (tokens.Step ∷ tokens.Name n ∷ tokens.Block t ∷ ts) name text after all e clash so_far =
-    let p = some_pair_parts _ _ _ _ e in
-    let n-is : name ≡ n = ap (λ (s : Step). s.name) p.0 in
-    sym so_far ∙ steps_turn front n t ts true (rw (← n-is) clash)
-steps_clash front ts name text after all e clash so_far = absurd cc
+pub step_goes_on : (read new : SoFar) (ts : List Token) (s : Step) (after : List Token) (all : Option (SoFar × List Token)) → Some (s, after) ≡ step_at ts → with_step s read ≡ Some new → sessions_from read ts ≡ all → sessions_from new after ≡ all
+unfolding step_at sessions_from
+step_goes_on read new (tokens.Step ∷ tokens.Name n ∷ tokens.Block t ∷ ts) s after all is e so_far =
+    let p = some_pair_parts _ _ _ _ is in
+    let f : with_step (record { name = n; text = t }) read ≡ Some new = ap (λ (r : Step). with_step r read) (sym p.0) ∙ e in
+    rw p.1 (sym (rw f refl) ∙ so_far)
+step_goes_on read new ts s after all is e so_far = absurd cc
 
-pub steps_end : (front : List Block) (ts : List Token) → None ≡ step_at ts → steps_from front ts ≡ Some (front, ts)
-unfolding step_at steps_from
-steps_end front (tokens.Step ∷ tokens.Name n ∷ tokens.Block t ∷ ts) e = absurd cc
-steps_end front ts e = refl
+pub step_fails : (read : SoFar) (ts : List Token) (s : Step) (after : List Token) (all : Option (SoFar × List Token)) → Some (s, after) ≡ step_at ts → sessions_from read ts ≡ all → with_step s read ≡ None → all ≡ None
+unfolding step_at sessions_from
+step_fails read (tokens.Step ∷ tokens.Name n ∷ tokens.Block t ∷ ts) s after all is so_far e =
+    let p = some_pair_parts _ _ _ _ is in
+    let f : with_step (record { name = n; text = t }) read ≡ None = ap (λ (r : Step). with_step r read) (sym p.0) ∙ e in
+    sym so_far ∙ rw f refl
+step_fails read ts s after all is so_far e = absurd cc
+
+pub sessions_end : (read : SoFar) (ts : List Token) → None ≡ session_at ts → None ≡ step_at ts → sessions_from read ts ≡ Some (read, ts)
+unfolding session_at step_at sessions_from
+sessions_end read (tokens.Session ∷ tokens.Name n ∷ ts) e f = absurd cc
+sessions_end read (tokens.Step ∷ tokens.Name n ∷ tokens.Block t ∷ ts) e f = absurd cc
+sessions_end read ts e f = refl

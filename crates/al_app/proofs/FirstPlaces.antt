@@ -41,10 +41,10 @@ none_before : (a : Bool) (n : ℕ) → is_some (cond a (Some n) None) ≡ false 
 none_before true n e = absurd cc
 none_before false n e = refl
 
-pub places_push : (f g : List ℕ → Option ℕ) (blocks new : List Block) (count : ℕ) (bs name text : List ℕ) (block : Block) → count ≡ length blocks → ((q : List ℕ) → g q ≡ cond (bytes_eq bs q) (Some count) (f q)) → ((q : List ℕ) → f q ≡ position (is_step q) blocks)
-    → bs ≡ name → is_some (position (is_step name) blocks) ≡ false → block ≡ step_block (record { name = name; text = text }) → new ≡ blocks ++ block ∷ [] → (q : List ℕ) → g q ≡ position (is_step q) new
-places_push f g blocks new count bs name text block counted after before is free made more q =
-    let s : Block = step_block (record { name = name; text = text }) in
+pub places_push : (f g : List ℕ → Option ℕ) (blocks new : List Block) (count session : ℕ) (bs name text : List ℕ) (block : Block) → count ≡ length blocks → ((q : List ℕ) → g q ≡ cond (bytes_eq bs q) (Some count) (f q)) → ((q : List ℕ) → f q ≡ position (is_step q) blocks)
+    → bs ≡ name → is_some (position (is_step name) blocks) ≡ false → block ≡ step_block session (record { name = name; text = text }) → new ≡ blocks ++ block ∷ [] → (q : List ℕ) → g q ≡ position (is_step q) new
+places_push f g blocks new count session bs name text block counted after before is free made more q =
+    let s : Block = step_block session (record { name = name; text = text }) in
     let n : ℕ = position_or_len (is_step q) blocks in
     let p : position (is_step q) (blocks ++ s ∷ []) ≡ cond (nat_lt n (length blocks)) (Some n) (cond (not (bytes_eq name q)) None (Some (length blocks))) = position_push (is_step q) blocks s in
     let first : bytes_eq name q ≡ true → nat_lt n (length blocks) ≡ false = λ e. none_before (nat_lt n (length blocks)) n (subst (λ (r : List ℕ). is_some (position (is_step r) blocks) ≡ false) ((bytes_eq-Decides name q).0 e) free) in

@@ -1,5 +1,5 @@
 -- What the public call says of what was read.
-use Rattle.std.proofs.Common.{◌≡◌, ℕ, zero, suc, ◌+◌, Bool, true, false, not, cond, List, [], ◌∷◌, ◌++◌, length, map, Option, Some, Result, Ok, Err, refl, sym, ap, subst, arith, ◌<◌}
+use Rattle.std.proofs.Common.{◌≡◌, ℕ, zero, suc, ◌+◌, Bool, true, false, not, cond, List, [], ◌∷◌, ◌++◌, length, map, Option, Some, Result, Ok, Err, refl, sym, ap, subst, arith, ◌<◌, ◌≤◌, ◌∙◌}
 use Rattle.std.specs.Prelude.{position, nat_lt, slice_get, IfOk}
 use Rattle.std.specs.List.{position_or_len, AllByRecursion}
 use Rattle.std.specs.Str.{bytes_eq}
@@ -17,12 +17,10 @@ use Rattle.al_history.specs.declared.spec.Spec.{Spec}
 use Rattle.al_history.specs.declared.statement.ScriptBlock.{ScriptBlock}
 use Rattle.al_history.specs.declared.statement.Scripts.{Scripts}
 use Rattle.al_app.specs.FirstSteps.{Gives}
-use Rattle.al_app.specs.First.{Step, Parts, setup_block, step_block, is_step_part, is_step, EachWith, IsScript, IsFirst, IsWell}
-use Rattle.al_history.specs.declared.statement.Statement.{Statement}
-use Rattle.al_history.specs.declared.statement.Statement.TheVariants as statements
-use Rattle.al_history.specs.Rules.{has_place}
+use Rattle.al_app.specs.First.{Step, Session, Parts, setup_block, step_block, session_blocks, is_step_part, is_step, EachWith, IsScript, IsFirst}
+use Rattle.al_app.specs.FirstShape.{IsSetup}
+use Rattle.al_app.specs.FirstSessions.{IsSessionStep, IsSessionStepAt, HasOneStatement, IsFirstShape}
 use Rattle.al_engine.specs.Ran.{IsSingle}
-use Rattle.al_app.specs.FirstShape.{IsSetup, IsStep, IsStepAt, HasOne, IsFirstShape}
 use Rattle.al_app.specs.FirstReading.{first_of}
 use Rattle.al_app.proofs.FirstFiles.{both, first_takes, first_again}
 
@@ -44,9 +42,19 @@ setups_are : (texts : List (List ℕ)) → AllByRecursion IsSetup (map setup_blo
 setups_are [] = tt
 setups_are (t ∷ texts) = (record { part = refl; session = refl }, setups_are texts)
 
-steps_are : (steps : List Step) → AllByRecursion IsStep (map step_block steps)
-steps_are [] = tt
-steps_are (s ∷ steps) = (record { part = refl; session = refl }, steps_are steps)
+-- the steps of sessions that count from a number are of sessions below another
+steps_are : (sessions number : ℕ) (steps : List Step) → 0 < number → number ≤ sessions → AllByRecursion (IsSessionStep sessions) (map (step_block number) steps)
+steps_are sessions number [] some known = tt
+steps_are sessions number (s ∷ steps) some known = (record { part = refl; some = some; known = known }, steps_are sessions number steps some known)
+
+all_append : {A : Type 0} (P : A → Type 0) (xs ys : List A) → AllByRecursion P xs → AllByRecursion P ys → AllByRecursion P (xs ++ ys)
+all_append P [] ys f g = g
+all_append P (x ∷ xs) ys f g = (f.0, all_append P xs ys f.1 g)
+
+sessions_are : (sessions number : ℕ) (of : List Session) → 0 < number → number + length of ≤ sessions + 1 → AllByRecursion (IsSessionStep sessions) (session_blocks number of)
+sessions_are sessions number [] some known = tt
+sessions_are sessions number (g ∷ of) some known =
+    all_append (IsSessionStep sessions) (map (step_block number) g.steps) (session_blocks (number + 1) of) (steps_are sessions number g.steps some (omega (arith, known))) (sessions_are sessions (number + 1) of (omega arith) (omega (arith, known)))
 
 -- what stands where a test first passes
 record Stands {A : Type 0} (p : A → Bool) (xs : List A) (k : ℕ) : Type 0 where
@@ -71,34 +79,34 @@ is_part : (part : Part) → is_step_part part ≡ true → part ≡ parts.Step
 is_part parts.Setup e = absurd cc
 is_part parts.Step e = refl
 
-abbrev Runs : Block → Type 0
-Runs b = b.part ≡ parts.Step → b.session ≡ 1
+abbrev Runs : ℕ → Block → Type 0
+Runs sessions b = b.part ≡ parts.Step → IsSessionStep sessions b
 
-steps_run : (steps : List Step) → AllByRecursion Runs (map step_block steps)
-steps_run [] = tt
-steps_run (s ∷ steps) = (λ e. refl, steps_run steps)
+setups_run : (sessions : ℕ) (bs : List Block) → AllByRecursion IsSetup bs → AllByRecursion (Runs sessions) bs
+setups_run sessions [] all = tt
+setups_run sessions (b ∷ bs) all = (λ e. let f = all.0.part in absurd cc, setups_run sessions bs all.1)
 
-all_run : (texts : List (List ℕ)) (steps : List Step) → AllByRecursion Runs (map setup_block texts ++ map step_block steps)
-all_run [] steps = steps_run steps
-all_run (t ∷ texts) steps = (λ e. absurd cc, all_run texts steps)
+steps_run : (sessions : ℕ) (bs : List Block) → AllByRecursion (IsSessionStep sessions) bs → AllByRecursion (Runs sessions) bs
+steps_run sessions [] all = tt
+steps_run sessions (b ∷ bs) all = (λ e. all.0, steps_run sessions bs all.1)
 
 all_at : {A : Type 0} (P : A → Type 0) (xs : List A) (k : ℕ) (x : A) → AllByRecursion P xs → slice_get xs k ≡ Some x → P x
 all_at P [] k x h e = absurd cc
 all_at P (y ∷ ys) zero x h e = subst P (same_Some y x e) h.0
 all_at P (y ∷ ys) (suc k) x h e = all_at P ys k x h.1 e
 
-step_at : (bs : List Block) (name : List ℕ) (k : ℕ) → AllByRecursion Runs bs → position (is_step name) bs ≡ Some k → IsStepAt bs k
-step_at bs name k runs e =
+step_at : (sessions : ℕ) (bs : List Block) (name : List ℕ) (k : ℕ) → AllByRecursion (Runs sessions) bs → position (is_step name) bs ≡ Some k → IsSessionStepAt sessions bs k
+step_at sessions bs name k runs e =
     let g = cond_some (nat_lt (position_or_len (is_step name) bs) (length bs)) (position_or_len (is_step name) bs) k e in
     let s = subst (λ (n : ℕ). Stands (is_step name) bs n) g.1 (stands (is_step name) bs g.0) in
     let part : s.item.part ≡ parts.Step = is_part s.item.part (both (is_step_part s.item.part) (bytes_eq s.item.name name) s.passes).0 in
-    record { within = slice_get_within bs k s.item s.there; block = s.item; there = s.there; step = record { part = part; session = all_at Runs bs k s.item runs s.there part } }
+    record { within = slice_get_within bs k s.item s.there; block = s.item; there = s.there; step = all_at (Runs sessions) bs k s.item runs s.there part }
 
-all_steps : (bs : List Block) (named : List (List ℕ)) (numbers : List ℕ) → AllByRecursion Runs bs → EachWith (λ name number. position (is_step name) bs ≡ Some number) named numbers → AllByRecursion (IsStepAt bs) numbers
-all_steps bs [] [] runs h = tt
-all_steps bs [] (k ∷ ks) runs h = absurd h
-all_steps bs (n ∷ ns) [] runs h = absurd h
-all_steps bs (n ∷ ns) (k ∷ ks) runs h = (step_at bs n k runs h.0, all_steps bs ns ks runs h.1)
+all_steps : (sessions : ℕ) (bs : List Block) (named : List (List ℕ)) (numbers : List ℕ) → AllByRecursion (Runs sessions) bs → EachWith (λ name number. position (is_step name) bs ≡ Some number) named numbers → AllByRecursion (IsSessionStepAt sessions bs) numbers
+all_steps sessions bs [] [] runs h = tt
+all_steps sessions bs [] (k ∷ ks) runs h = absurd h
+all_steps sessions bs (n ∷ ns) [] runs h = absurd h
+all_steps sessions bs (n ∷ ns) (k ∷ ks) runs h = (step_at sessions bs n k runs h.0, all_steps sessions bs ns ks runs h.1)
 
 as_many : {A B : Type 0} (R : A → B → Type 0) (xs : List A) (ys : List B) → EachWith R xs ys → length xs ≡ length ys
 as_many R [] [] h = refl
@@ -106,58 +114,59 @@ as_many R [] (y ∷ ys) h = absurd h
 as_many R (x ∷ xs) [] h = absurd h
 as_many R (x ∷ xs) (y ∷ ys) h = ap suc (as_many R xs ys h.1)
 
-well_plain : (one : Statement) → IsWell one → has_place one ≡ true
-well_plain statements.Begin well = absurd well
-well_plain statements.Commit well = absurd well
-well_plain statements.Rollback well = absurd well
-well_plain (statements.CreateTable table columns) well = refl
-well_plain (statements.Insert table values) well = refl
-well_plain (statements.Select table) well = refl
-well_plain (statements.AddColumn table added) well = refl
-
-one_each : (bs : List Block) (ss : List ScriptBlock) → EachWith IsScript bs ss → EachWith HasOne bs ss
+one_each : (bs : List Block) (ss : List ScriptBlock) → EachWith IsScript bs ss → EachWith HasOneStatement bs ss
 one_each [] [] h = tt
 one_each [] (s ∷ ss) h = absurd h
 one_each (b ∷ bs) [] h = absurd h
-one_each (b ∷ bs) (s ∷ ss) h = (record { session = ap (λ (x : ScriptBlock). x.session) h.0.2; one = h.0.0; alone = ap (λ (x : ScriptBlock). x.script) h.0.2; plain = well_plain h.0.0 h.0.1.is_well }, one_each bs ss h.1)
+one_each (b ∷ bs) (s ∷ ss) h = (record { session = ap (λ (x : ScriptBlock). x.session) h.0.2; one = h.0.0; alone = ap (λ (x : ScriptBlock). x.script) h.0.2 }, one_each bs ss h.1)
 
--- each block is of the control session or of the one session
-abbrev IsKnown : Block → Type 0
-IsKnown b = b.session < 2
+-- each block is of the control session or of one of the file's
+abbrev IsKnown : ℕ → Block → Type 0
+IsKnown sessions b = b.session ≤ sessions
 
-steps_known : (steps : List Step) → AllByRecursion IsKnown (map step_block steps)
-steps_known [] = tt
-steps_known (s ∷ steps) = (omega arith, steps_known steps)
+setups_known : (sessions : ℕ) (bs : List Block) → AllByRecursion IsSetup bs → AllByRecursion (IsKnown sessions) bs
+setups_known sessions [] all = tt
+setups_known sessions (b ∷ bs) all = (omega (arith, all.0.session), setups_known sessions bs all.1)
 
-all_known : (texts : List (List ℕ)) (steps : List Step) → AllByRecursion IsKnown (map setup_block texts ++ map step_block steps)
-all_known [] steps = steps_known steps
-all_known (t ∷ texts) steps = (omega arith, all_known texts steps)
+steps_known : (sessions : ℕ) (bs : List Block) → AllByRecursion (IsSessionStep sessions) bs → AllByRecursion (IsKnown sessions) bs
+steps_known sessions [] all = tt
+steps_known sessions (b ∷ bs) all = (all.0.known, steps_known sessions bs all.1)
 
-all_single : (bs : List Block) (ss : List ScriptBlock) → EachWith HasOne bs ss → AllByRecursion IsKnown bs → AllByRecursion (IsSingle 2) ss
-all_single [] [] h known = tt
-all_single [] (s ∷ ss) h known = absurd h
-all_single (b ∷ bs) [] h known = absurd h
-all_single (b ∷ bs) (s ∷ ss) h known = (record { known = omega (arith, h.0.session, known.0); has_one = rw h.0.alone (ap Some h.0.plain); has_no_more = rw h.0.alone refl }, all_single bs ss h.1 known.1)
+all_single : (sessions : ℕ) (bs : List Block) (ss : List ScriptBlock) → EachWith HasOneStatement bs ss → AllByRecursion (IsKnown sessions) bs → AllByRecursion (IsSingle (sessions + 1)) ss
+all_single sessions [] [] h known = tt
+all_single sessions [] (s ∷ ss) h known = absurd h
+all_single sessions (b ∷ bs) [] h known = absurd h
+all_single sessions (b ∷ bs) (s ∷ ss) h known = (record { known = omega (arith, h.0.session, known.0); has_one = rw h.0.alone refl; has_no_more = rw h.0.alone refl }, all_single sessions bs ss h.1 known.1)
 
 shape : (bytes : List ℕ) (spec : Spec) (scripts : Scripts) → IsFirst bytes spec scripts → IsFirstShape spec scripts
 shape bytes spec scripts h =
     let p : Parts = h.parts in
-    let runs : AllByRecursion Runs spec.blocks = subst (λ (bs : List Block). AllByRecursion Runs bs) (sym h.blocks) (all_run p.setups p.steps) in
-    let known : AllByRecursion IsKnown spec.blocks = subst (λ (bs : List Block). AllByRecursion IsKnown bs) (sym h.blocks) (all_known p.setups p.steps) in
-    let ones : EachWith HasOne spec.blocks scripts.blocks = one_each spec.blocks scripts.blocks h.scripts_are in
+    let n : ℕ = length spec.sessions in
+    let counted : n ≡ length p.sessions = ap length h.sessions ∙ length-map p.sessions (λ (s : Session). s.name) in
+    let setups : List Block = map setup_block p.setups in
+    let steps : List Block = session_blocks 1 p.sessions in
+    let are_setups : AllByRecursion IsSetup setups = setups_are p.setups in
+    let are_steps : AllByRecursion (IsSessionStep n) steps = sessions_are n 1 p.sessions (omega arith) (omega (arith, counted)) in
+    let runs : AllByRecursion (Runs n) spec.blocks = subst (λ (bs : List Block). AllByRecursion (Runs n) bs) (sym h.blocks) (all_append (Runs n) setups steps (setups_run n setups are_setups) (steps_run n steps are_steps)) in
+    let known : AllByRecursion (IsKnown n) spec.blocks = subst (λ (bs : List Block). AllByRecursion (IsKnown n) bs) (sym h.blocks) (all_append (IsKnown n) setups steps (setups_known n setups are_setups) (steps_known n steps are_steps)) in
+    let ones : EachWith HasOneStatement spec.blocks scripts.blocks = one_each spec.blocks scripts.blocks h.scripts_are in
+    let many : length p.named ≡ length h.numbers = as_many _ p.named h.numbers h.numbered in
     record {
-      sessions = h.two;
-      setups = map setup_block p.setups;
-      steps = map step_block p.steps;
+      sessions = h.counted;
+      some_session = omega (arith, counted, h.a_session);
+      few_sessions = omega (arith, counted, h.few_sessions);
+      setups = setups;
+      steps = steps;
       in_order = h.blocks;
-      are_setups = setups_are p.setups;
-      are_steps = steps_are p.steps;
+      are_setups = are_setups;
+      are_steps = are_steps;
       numbers = h.numbers;
       one_permutation = h.permutations;
-      name_steps = all_steps spec.blocks p.named h.numbers runs h.numbered;
-      few = omega (arith, length-map p.setups setup_block, as_many _ p.named h.numbers h.numbered, h.few);
+      name_steps = all_steps n spec.blocks p.named h.numbers runs h.numbered;
+      some_name = omega (arith, many, h.a_name);
+      few = omega (arith, length-map p.setups setup_block, many, h.few);
       scripts_are = ones;
-      single = rw h.two (all_single spec.blocks scripts.blocks ones known);
+      single = rw h.counted (all_single n spec.blocks scripts.blocks ones known);
     }
 
 pub has_shape : (bytes : List ℕ) (r : Result (Spec × Scripts) (Cant SpecFault)) → Gives (λ x. x) r (first_of bytes) → IfOk r (λ v. IsFirstShape v.0 v.1)

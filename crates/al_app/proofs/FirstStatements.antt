@@ -16,7 +16,7 @@ use Rattle.al_app.specs.declared.first.inside.Lexeme.TheVariants as lexemes
 use Rattle.al_app.specs.FirstSteps.{◌>>=◌}
 use Rattle.al_app.specs.FirstInside.{lexemes_of}
 use Rattle.al_app.specs.First.{is_name, IsName, listed, IsOneToTen, column, value, default, statement, IsSpelled, IsWell, IsEnd, IsStatement}
-use Rattle.al_app.specs.FirstReading.{word_at, sign_at, name_at, column_at, value_at, comma_at, listed_at, number_at, default_at, create_at, insert_at, select_at, alter_at, starts, one_at, is_end, statement_of}
+use Rattle.al_app.specs.FirstReading.{word_at, sign_at, name_at, column_at, value_at, comma_at, listed_at, number_at, default_at, create_at, insert_at, select_at, alter_at, starts, alone_at, control_at, one_at, is_end, statement_of}
 
 -- ---- single steps, before what comes after
 
@@ -277,15 +277,33 @@ alter_takes ls y e =
     let spelled : ls ≡ statement made.0 ++ made.1 = a.1 ∙ behind (lexemes.Word (codes "alter")) (b.1 ∙ behind (lexemes.Word (codes "table")) (t.2 ∙ behind (lexemes.Word t.0) (c.1 ∙ behind (lexemes.Word (codes "add")) (d.1 ∙ behind (lexemes.Word (codes "column")) (m.0 ∙ behind (lexemes.Word n.0.0) (behind (lexemes.Word (codes "integer")) given.0)))))) in
     took_as ls made y f.2 (record { spelled = spelled; is_well = (t.3, m.1, given.1) })
 
-one_by : (ls : List Lexeme) (y : Statement × List Lexeme) (a b c : Bool) → cond a (create_at ls) (cond b (insert_at ls) (cond c (select_at ls) (alter_at ls))) ≡ Some y → Took ls y
-one_by ls y true b c e = create_takes ls y e
-one_by ls y false true c e = insert_takes ls y e
-one_by ls y false false true e = select_takes ls y e
-one_by ls y false false false e = alter_takes ls y e
+alone_takes : (w : List ℕ) (one : Statement) (ls : List Lexeme) (y : Statement × List Lexeme) → statement one ≡ lexemes.Word w ∷ [] → IsWell one → alone_at w one ls ≡ Some y → Took ls y
+unfolding alone_at
+alone_takes w one ls y spell well e =
+    let a = word_then w ls _ y e in
+    let made : Statement × List Lexeme = (one, a.0) in
+    let spelled : ls ≡ statement made.0 ++ made.1 = a.1 ∙ ap (λ (r : List Lexeme). r ++ a.0) (sym spell) in
+    took_as ls made y a.2 (record { spelled = spelled; is_well = well })
+
+control_by : (ls : List Lexeme) (y : Statement × List Lexeme) (a b : Bool) → cond a (alone_at (codes "begin") statements.Begin ls) (cond b (alone_at (codes "commit") statements.Commit ls) (alone_at (codes "rollback") statements.Rollback ls)) ≡ Some y → Took ls y
+control_by ls y true b e = alone_takes (codes "begin") statements.Begin ls y refl tt e
+control_by ls y false true e = alone_takes (codes "commit") statements.Commit ls y refl tt e
+control_by ls y false false e = alone_takes (codes "rollback") statements.Rollback ls y refl tt e
+
+control_takes : (ls : List Lexeme) (y : Statement × List Lexeme) → control_at ls ≡ Some y → Took ls y
+unfolding control_at
+control_takes ls y e = control_by ls y (starts (codes "begin") ls) (starts (codes "commit") ls) e
+
+one_by : (ls : List Lexeme) (y : Statement × List Lexeme) (a b c d : Bool) → cond a (create_at ls) (cond b (insert_at ls) (cond c (select_at ls) (cond d (alter_at ls) (control_at ls)))) ≡ Some y → Took ls y
+one_by ls y true b c d e = create_takes ls y e
+one_by ls y false true c d e = insert_takes ls y e
+one_by ls y false false true d e = select_takes ls y e
+one_by ls y false false false true e = alter_takes ls y e
+one_by ls y false false false false e = control_takes ls y e
 
 one_takes : (ls : List Lexeme) (y : Statement × List Lexeme) → one_at ls ≡ Some y → Took ls y
 unfolding one_at
-one_takes ls y e = one_by ls y (starts (codes "create") ls) (starts (codes "insert") ls) (starts (codes "select") ls) e
+one_takes ls y e = one_by ls y (starts (codes "create") ls) (starts (codes "insert") ls) (starts (codes "select") ls) (starts (codes "alter") ls) e
 
 end_by : (s : ℕ) (b : Bool) → eqb s 59 ≡ b → b ≡ true → IsEnd (lexemes.Sign s ∷ [])
 end_by s true t e = inr (ap (λ (n : ℕ). lexemes.Sign n ∷ []) (eqb-true s 59 t))
@@ -349,11 +367,15 @@ alter_again table added end fits is =
       default_again added.default end fits.2 is,
     ) refl
 
+alone_again : (w : List ℕ) (one : Statement) (end : List Lexeme) → alone_at w one (lexemes.Word w ∷ end) ≡ Some (one, end)
+unfolding alone_at
+alone_again w one end = rw (word_again w end) refl
+
 one_again : (one : Statement) (end : List Lexeme) → IsWell one → IsEnd end → one_at (statement one ++ end) ≡ Some (one, end)
-unfolding one_at starts
-one_again statements.Begin end fits is = absurd fits
-one_again statements.Commit end fits is = absurd fits
-one_again statements.Rollback end fits is = absurd fits
+unfolding one_at control_at starts
+one_again statements.Begin end fits is = alone_again (codes "begin") statements.Begin end
+one_again statements.Commit end fits is = alone_again (codes "commit") statements.Commit end
+one_again statements.Rollback end fits is = alone_again (codes "rollback") statements.Rollback end
 one_again (statements.CreateTable table columns) end fits is = create_again table columns end fits
 one_again (statements.Insert table values) end fits is = insert_again table values end fits
 one_again (statements.Select table) end fits is = select_again table end fits

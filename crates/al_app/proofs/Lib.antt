@@ -1,4 +1,3 @@
-pub mod RunLemmas
 pub mod FirstLexing
 pub mod FirstLoops
 pub mod FirstPlaces
@@ -8,4 +7,10 @@ pub mod FirstShapes
 pub mod ReportLemmas
 pub mod TopLemmas
 pub mod AnswerLemmas
+mod FirstVectors
 mod ReportVectors
+pub mod QuietLemmas
+pub mod CloseLemmas
+pub mod RunLemmas
+pub mod DriveLemmas
+pub mod DueLemmas

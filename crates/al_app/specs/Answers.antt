@@ -63,7 +63,7 @@ pub record HasRun (told : Option (List ℕ)) (runs : List Run) (text : List ℕ)
   pub are_runs : AreRuns spec scripts runs
   pub printed : text ≡ report spec runs
 
--- the bytes are no spec file of the first form
+-- the bytes are no spec file of the form that is read so far
 abbrev pub IsNotFirst : List ℕ → Type 0
 IsNotFirst input = (spec : Spec) (scripts : Scripts) → IsFirst input spec scripts → ⊥
 
@@ -126,12 +126,12 @@ HasRunOrNoMemory (statuses.SetupFailed run) = Unit {0}
 HasRunOrNoMemory statuses.NoMemory = Unit {0}
 HasRunOrNoMemory status = ⊥
 
--- the told bytes are of the first form
+-- the told bytes are a spec file of that form
 abbrev pub IsTold : Option (List ℕ) → Type 0
 IsTold None = ⊥
 IsTold (Some input) = (spec : Spec) × (scripts : Scripts) × IsFirst input spec scripts
 
--- the word `run`, bytes of the first form, and no fault of the outside give a run or want of memory
+-- the word `run`, the bytes of such a file, and no fault of the outside give a run or want of memory
 abbrev pub IsComplete : List (List ℕ) → Option (List ℕ) → Type 0 → Type 0 → Status → Type 0
 IsComplete words told read_failed write_failed status = bad_word words ≡ None → IsTold told → (read_failed → ⊥) → (write_failed → ⊥) → HasRunOrNoMemory status
 

@@ -1,9 +1,11 @@
--- The first form of spec files, as a grammar (src/test/isolation/README; CREATE TABLE, INSERT, SELECT, ALTER TABLE):
---   first := { "setup" block } "session" name step { step } "permutation" name { name }
---   step  := "step" name block
---   stmt  := one [ ";" ], the text of a block
---   one   := CREATE TABLE name "(" name INTEGER { "," name INTEGER } ")" | INSERT INTO name VALUES "(" value { "," value } ")"
---          | SELECT "*" FROM name | ALTER TABLE name ADD COLUMN name INTEGER [ DEFAULT digits ]
+-- The first form of spec files, as a grammar (src/test/isolation/README; CREATE TABLE, INSERT, SELECT, ALTER TABLE, BEGIN,
+-- COMMIT, ROLLBACK):
+--   first   := { "setup" block } session { session } "permutation" name { name }
+--   session := "session" name step { step }
+--   step    := "step" name block
+--   stmt    := one [ ";" ], the text of a block
+--   one     := CREATE TABLE name "(" name INTEGER { "," name INTEGER } ")" | INSERT INTO name VALUES "(" value { "," value } ")"
+--            | SELECT "*" FROM name | ALTER TABLE name ADD COLUMN name INTEGER [ DEFAULT digits ] | BEGIN | COMMIT | ROLLBACK
 use Rattle.std.specs.Prelude.{◌≡◌, ℕ, ◌+◌, ◌<◌, ◌≤◌, Bool, true, false, not, ◌&&◌, List, [], ◌∷◌, ◌++◌, length, map, Some, nat_le, position, codes, ◌⊎◌}
 use Rattle.std.specs.List.{flat_map, list_any, AllByRecursion}
 use Rattle.std.specs.Str.{bytes_eq, is_utf8}
@@ -76,6 +78,9 @@ default _ = []
 
 -- the lexemes of a statement, one line for each kind
 abbrev pub statement : Statement → List Lexeme
+statement statements.Begin = lexemes.Word (codes "begin") ∷ []
+statement statements.Commit = lexemes.Word (codes "commit") ∷ []
+statement statements.Rollback = lexemes.Word (codes "rollback") ∷ []
 statement (statements.CreateTable table columns) =
     lexemes.Word (codes "create") ∷ lexemes.Word (codes "table") ∷ lexemes.Word table ∷ lexemes.Sign 40 ∷ listed column columns
 statement (statements.Insert table values) =
@@ -85,7 +90,6 @@ statement (statements.Select table) =
 statement (statements.AddColumn table added) =
     lexemes.Word (codes "alter") ∷ lexemes.Word (codes "table") ∷ lexemes.Word table ∷
     lexemes.Word (codes "add") ∷ lexemes.Word (codes "column") ∷ lexemes.Word added.name ∷ lexemes.Word (codes "integer") ∷ default added.default
-statement other = []
 
 -- its names are names, its values those of the form, and its lists aren't too long
 abbrev pub IsWell : Statement → Type 0
@@ -93,7 +97,9 @@ IsWell (statements.CreateTable table columns) = IsName table × AllByRecursion I
 IsWell (statements.Insert table values) = IsName table × AllByRecursion IsSpelled values × IsOneToTen values
 IsWell (statements.Select table) = IsName table
 IsWell (statements.AddColumn table added) = IsName table × IsName added.name × IsSpelled added.default
-IsWell other = ⊥
+IsWell statements.Begin = Unit {0}
+IsWell statements.Commit = Unit {0}
+IsWell statements.Rollback = Unit {0}
 
 -- [ ";" ]
 abbrev pub IsEnd : List Lexeme → Type 0
@@ -112,11 +118,14 @@ pub record Step : Type 0 where
   pub name : List ℕ
   pub text : List ℕ
 
+pub record Session : Type 0 where
+  pub name : List ℕ
+  pub steps : List Step
+
 -- what stands in a file, in its order
 pub record Parts : Type 0 where
   pub setups : List (List ℕ)
-  pub session : List ℕ
-  pub steps : List Step
+  pub sessions : List Session
   pub named : List (List ℕ)
 
 abbrev pub setup : List ℕ → List Token
@@ -126,24 +135,40 @@ setup text = tokens.Setup ∷ tokens.Block text ∷ []
 abbrev pub step : Step → List Token
 step s = tokens.Step ∷ tokens.Name s.name ∷ tokens.Block s.text ∷ []
 
--- { "setup" block } "session" name step { step } "permutation" name { name }
+-- "session" name { step }
+abbrev pub session : Session → List Token
+session s = tokens.Session ∷ tokens.Name s.name ∷ flat_map step s.steps
+
+-- { "setup" block } { session } "permutation" { name }
 abbrev pub file : Parts → List Token
-file p = flat_map setup p.setups ++ tokens.Session ∷ tokens.Name p.session ∷ (flat_map step p.steps ++ tokens.Permutation ∷ map tokens.Name p.named)
+file p = flat_map setup p.setups ++ (flat_map session p.sessions ++ tokens.Permutation ∷ map tokens.Name p.named)
+
+abbrev pub HasStep : Session → Type 0
+HasStep s = 0 < length s.steps
+
+-- the names of the steps of all sessions
+abbrev pub step_names : List Session → List (List ℕ)
+step_names sessions = flat_map (λ (s : Session). map (λ (t : Step). t.name) s.steps) sessions
 
 -- no name is one of those before it
 abbrev pub are_new : List (List ℕ) → List (List ℕ) → Bool
 are_new before [] = true
 are_new before (n ∷ ns) = not (list_any (λ m. bytes_eq m n) before) && are_new (before ++ n ∷ []) ns
 
--- blocks count from 0: the setup blocks, which the control session runs, and then the steps of session 1
+-- blocks count from 0: the setup blocks, which the control session runs, and then the steps of the sessions, which count from 1
 abbrev pub setup_block : List ℕ → Block
 setup_block text = record { part = parts.Setup; session = 0; name = []; text = text }
 
-abbrev pub step_block : Step → Block
-step_block s = record { part = parts.Step; session = 1; name = s.name; text = s.text }
+abbrev pub step_block : ℕ → Step → Block
+step_block session s = record { part = parts.Step; session = session; name = s.name; text = s.text }
+
+-- the steps of sessions that count from a number
+abbrev pub session_blocks : ℕ → List Session → List Block
+session_blocks number [] = []
+session_blocks number (s ∷ sessions) = map (step_block number) s.steps ++ session_blocks (number + 1) sessions
 
 abbrev pub blocks : Parts → List Block
-blocks p = map setup_block p.setups ++ map step_block p.steps
+blocks p = map setup_block p.setups ++ session_blocks 1 p.sessions
 
 abbrev pub is_step_part : Part → Bool
 is_step_part parts.Setup = false
@@ -169,14 +194,16 @@ pub record IsFirst (bytes : List ℕ) (spec : Spec) (scripts : Scripts) : Type 0
   pub parts : Parts
   pub short : length bytes ≤ 65536
   pub spelled : tokens_of bytes ≡ Some (file parts)
-  pub a_step : 0 < length parts.steps
+  pub a_session : 0 < length parts.sessions
+  pub few_sessions : length parts.sessions ≤ 62
+  pub a_step : AllByRecursion HasStep parts.sessions
   pub a_name : 0 < length parts.named
-  pub distinct : are_new [] (map (λ s. s.name) parts.steps) ≡ true
+  pub distinct : are_new [] (step_names parts.sessions) ≡ true
   pub few : length parts.setups + length parts.named ≤ 100
-  pub sessions : spec.sessions ≡ parts.session ∷ []
+  pub sessions : spec.sessions ≡ map (λ s. s.name) parts.sessions
   pub blocks : spec.blocks ≡ blocks parts
   pub numbers : List ℕ
   pub permutations : spec.permutations ≡ numbers ∷ []
   pub numbered : EachWith (λ name number. position (is_step name) spec.blocks ≡ Some number) parts.named numbers
-  pub two : scripts.sessions ≡ 2
+  pub counted : scripts.sessions ≡ length spec.sessions + 1
   pub scripts_are : EachWith IsScript spec.blocks scripts.blocks

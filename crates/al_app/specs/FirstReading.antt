@@ -1,5 +1,5 @@
 -- Reading the first form from left to right.
-use Rattle.std.specs.Prelude.{◌≡◌, ℕ, zero, suc, ◌+◌, Bool, true, false, List, [], ◌∷◌, ◌++◌, length, Option, Some, None, if◌then◌else◌, nat_le, nat_lt, ◌==◌, ◌&&◌, position, is_some, codes}
+use Rattle.std.specs.Prelude.{◌≡◌, ℕ, zero, suc, ◌+◌, Bool, true, false, not, List, [], ◌∷◌, ◌++◌, length, Option, Some, None, if◌then◌else◌, nat_le, nat_lt, ◌==◌, ◌&&◌, position, is_some, codes}
 use Rattle.std.specs.Str.{bytes_eq}
 use Rattle.std.specs.Global.{Global}
 use Rattle.std.specs.declared.string.String.{String}
@@ -126,11 +126,23 @@ starts wanted (lexemes.Word w ∷ ls) = bytes_eq w wanted
 starts wanted (lexemes.Number n ∷ ls) = false
 starts wanted (lexemes.Sign s ∷ ls) = false
 
+-- a statement of one word
+unfoldable pub alone_at : List ℕ → Statement → List Lexeme → Option (Statement × List Lexeme)
+alone_at wanted one ls = do
+  rest ← word_at wanted ls
+  Some (one, rest)
+
+unfoldable pub control_at : List Lexeme → Option (Statement × List Lexeme)
+control_at ls =
+    if starts (codes "begin") ls then alone_at (codes "begin") statements.Begin ls else
+    (if starts (codes "commit") ls then alone_at (codes "commit") statements.Commit ls else alone_at (codes "rollback") statements.Rollback ls)
+
 unfoldable pub one_at : List Lexeme → Option (Statement × List Lexeme)
 one_at ls =
     if starts (codes "create") ls then create_at ls else
     (if starts (codes "insert") ls then insert_at ls else
-    (if starts (codes "select") ls then select_at ls else alter_at ls))
+    (if starts (codes "select") ls then select_at ls else
+    (if starts (codes "alter") ls then alter_at ls else control_at ls)))
 
 unfoldable pub is_end : List Lexeme → Bool
 is_end [] = true
@@ -168,11 +180,29 @@ unfoldable pub step_at : List Token → Option (Step × List Token)
 step_at (tokens.Step ∷ tokens.Name name ∷ tokens.Block text ∷ ts) = Some (record { name = name; text = text }, ts)
 step_at ts = None
 
--- the steps, behind the blocks in front, none of which has the name of another
-unfoldable pub steps_from : List Block → List Token → Option (List Block × List Token)
-steps_from front (tokens.Step ∷ tokens.Name name ∷ tokens.Block text ∷ ts) =
-    if is_some (position (is_step name) front) then None else steps_from (front ++ step_block (record { name = name; text = text }) ∷ []) ts
-steps_from front ts = Some (front, ts)
+-- What has been read of the sessions: their names, the blocks so far, and whether the last session has no step yet.
+pub record SoFar : Type 0 where
+  pub names : List (List ℕ)
+  pub blocks : List Block
+  pub lacks : Bool
+
+abbrev pub so_far : List (List ℕ) → List Block → Bool → SoFar
+so_far names blocks lacks = record { names = names; blocks = blocks; lacks = lacks }
+
+-- a session begins where the one before it has a step
+unfoldable pub with_session : List ℕ → SoFar → Option SoFar
+with_session name read = if read.lacks then None else Some (so_far (read.names ++ name ∷ []) read.blocks true)
+
+-- a step of the last session has the name of no step before it
+unfoldable pub with_step : Step → SoFar → Option SoFar
+with_step s read =
+    if is_some (position (is_step s.name) read.blocks) then None else
+    Some (so_far read.names (read.blocks ++ step_block (length read.names) s ∷ []) false)
+
+unfoldable pub sessions_from : SoFar → List Token → Option (SoFar × List Token)
+sessions_from read (tokens.Session ∷ tokens.Name name ∷ ts) = with_session name read >>= λ new. sessions_from new ts
+sessions_from read (tokens.Step ∷ tokens.Name name ∷ tokens.Block text ∷ ts) = with_step (record { name = name; text = text }) read >>= λ new. sessions_from new ts
+sessions_from read ts = Some (read, ts)
 
 unfoldable pub permutation_at : List Token → Option (List Token)
 permutation_at (tokens.Permutation ∷ ts) = Some ts
@@ -187,19 +217,19 @@ script_of block = do
   one ← statement_of block.text
   Some (record { session = block.session; script = one ∷ [] })
 
--- there is a step, the permutation has a name, and there aren't too many to run
-unfoldable pub is_bounded : ℕ → ℕ → ℕ → Bool
-is_bounded setups blocks numbers = nat_lt setups blocks && (nat_lt 0 numbers && nat_le (setups + numbers) 100)
+-- the last session has a step, the permutation has a name, and there aren't too many sessions or too many blocks to run
+unfoldable pub is_bounded : Bool → ℕ → ℕ → ℕ → Bool
+is_bounded lacks sessions setups numbers = not lacks && (nat_le sessions 62 && (nat_lt 0 numbers && nat_le (setups + numbers) 100))
 
 unfoldable pub spec_of : List Token → Option Spec
 spec_of ts = do
   let setups = setups_from [] ts
-  session ← session_at setups.1
-  steps ← steps_from setups.0 session.1
-  names ← permutation_at steps.1
-  numbers ← each_from (number_of steps.0) [] names
-  if is_bounded (length setups.0) (length steps.0) (length numbers)
-      then Some (record { sessions = session.0 ∷ []; blocks = steps.0; permutations = numbers ∷ [] }) else None
+  first ← session_at setups.1
+  sessions ← sessions_from (so_far (first.0 ∷ []) setups.0 true) first.1
+  names ← permutation_at sessions.1
+  numbers ← each_from (number_of sessions.0.blocks) [] names
+  if is_bounded sessions.0.lacks (length sessions.0.names) (length setups.0) (length numbers)
+      then Some (record { sessions = sessions.0.names; blocks = sessions.0.blocks; permutations = numbers ∷ [] }) else None
 
 unfoldable pub first_of : List ℕ → Option (Spec × Scripts)
 first_of bytes = do
@@ -207,7 +237,7 @@ first_of bytes = do
   ts ← tokens_of short
   spec ← spec_of ts
   scripts ← each_from script_of [] spec.blocks
-  Some (spec, record { sessions = 2; blocks = scripts })
+  Some (spec, record { sessions = length spec.sessions + 1; blocks = scripts })
 
 -- a map that has the number of each step at its name
 abbrev pub HasPlaces : BTreeMap (String Global) ℕ → List Block → Type 0

@@ -4,6 +4,7 @@ pub mod FirstOutside
 pub mod FirstInside
 pub mod First
 pub mod FirstShape
+pub mod FirstSessions
 pub mod FirstReading
 pub mod Report
 pub mod Numbers

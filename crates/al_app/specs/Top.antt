@@ -1,5 +1,5 @@
 -- What stands between the bytes and the answer.
-use Rattle.std.specs.Prelude.{◌≡◌, ℕ, List, [], ◌∷◌, Option, IfSome, ◌⊎◌}
+use Rattle.std.specs.Prelude.{◌≡◌, ℕ, ◌+◌, ◌≤◌, List, [], ◌∷◌, length, Option, IfSome, ◌⊎◌}
 use Rattle.std.specs.List.{AllByRecursion}
 use Rattle.std.specs.Io.KnownBytes.{IsAtEnd}
 use Rattle.al_values.specs.declared.cant.Cant.{Cant}
@@ -10,19 +10,18 @@ use Rattle.al_history.specs.declared.statement.Scripts.{Scripts}
 use Rattle.al_outside.specs.Reading.{IsReadPast}
 use Rattle.al_app.specs.declared.top.Stop.{Stop}
 use Rattle.al_app.specs.declared.top.Stop.TheVariants as stops
-use Rattle.al_app.specs.FirstShape.{IsStepAt}
+use Rattle.al_app.specs.FirstSessions.{IsSessionStepAt}
 use Rattle.al_app.specs.Runs.{IsRunnable}
 use Rattle.al_app.specs.Answers.{IsNotFirst}
 
--- a spec file of one session and one permutation of steps, whose blocks have their statements
+-- a spec file of one permutation of steps, whose blocks have their statements
 pub record CanRun (spec : Spec) (scripts : Scripts) : Type 0 where
   pub runnable : IsRunnable spec scripts
-  pub two : scripts.sessions ≡ 2
-  pub session : List ℕ
-  pub one_session : spec.sessions ≡ session ∷ []
+  pub sessions : scripts.sessions ≡ length spec.sessions + 1
+  pub few_sessions : length spec.sessions ≤ 62
   pub steps : List ℕ
   pub one_permutation : spec.permutations ≡ steps ∷ []
-  pub are_steps : AllByRecursion (IsStepAt spec.blocks) steps
+  pub are_steps : AllByRecursion (IsSessionStepAt (length spec.sessions) spec.blocks) steps
 
 -- the bytes aren't of the form; want of memory has no cause
 abbrev pub IsFaultOf : List ℕ → Cant SpecFault → Type 0

@@ -11,7 +11,7 @@ ghost use Rattle.al_values.specs.Gives.{GivesUnlessNoMemory};
 ghost use Rattle.al_history.specs.declared.spec.Spec.{Spec};
 ghost use Rattle.al_history.specs.declared.statement.Scripts.{Scripts};
 ghost use Rattle.al_app.specs.First.{IsFirst};
-ghost use Rattle.al_app.specs.FirstShape.{IsFirstShape};
+ghost use Rattle.al_app.specs.FirstSessions.{IsFirstShape};
 
 use al_history::{Scripts, Spec, SpecFault};
 use al_values::Cant;

@@ -1,10 +1,15 @@
-ghost use Rattle.std.specs.Prelude.{◌≡◌, ◌++◌, codes, flat_map, IfOk, OnOk, string_bytes};
-ghost use Rattle.std.specs.List.{join_by};
-ghost use Rattle.al_values.specs.Printed.{printed};
-ghost use Rattle.al_app.specs.Report.{report, run_text, journal_text, title_text, setup_text, permutation_text, names_text, step_name, entry_text, head_text, reply_text, rows_text, row_text, row_count_text, tag_text, cause_text, many_values_text};
+ghost use Rattle.std.specs.Prelude.{◌≡◌, ◌≤◌, ◌++◌, length, flat_map, IfOk, OnOk, string_bytes};
+ghost use Rattle.std.specs.List.{count_by};
+ghost use Rattle.al_app.specs.Report.{report, run_text, journal_text, title_text, setup_text, permutation_text, names_text, step_name, is_step, gives_step, giving_end, session_name, blocked_text, rest_text, not_given_text, text_at};
 
-use al_history::{Block, Cause, Entry, Part, Reply, Run, RunList, Setup, Spec, Tag};
-use al_values::{Name, NoMemory, Row, Txt, Value};
+mod blocks;
+mod names;
+mod replies;
+
+use crate::report::blocks::{push_entries, push_step};
+use crate::report::names::push_name;
+use al_history::{Block, Entry, Part, Run, RunList, Setup, Spec};
+use al_values::{Name, NoMemory, Txt};
 use std::alloc::Global;
 
 /// The report of the runs of a spec file. The only error is that no memory was to be had.
@@ -19,177 +24,151 @@ pub fn print(alloc: Global, spec: &Spec, runs: &RunList) -> Result<Txt, NoMemory
     Ok(Txt::from_string(text))
 }
 
-fn push_cause(text: &mut String, cause: &Cause) -> Result<(), NoMemory>
-    ensures ok { OnOk result
-        (string_bytes text.new ≡ string_bytes text.old ++ cause_text cause.now) }
+fn is_step(part: Part) -> bool
+    ensures { result ≡ is_step part }
 {
-    match cause {
-        Cause::NoTable { name } => write!(text, "42P01: table \"{name}\" does not exist")?,
-        Cause::TwiceTable { name } => write!(text, "42P07: table \"{name}\" already exists")?,
-        Cause::TwiceColumn { name } => write!(text, "42701: column \"{name}\" already exists")?,
-        Cause::Count { want, got } => push_many_values(text, *want, *got)?,
-        Cause::BlockFailed { .. } => write!(text, "25P02: transaction block has failed")?,
-        Cause::Cancelled { .. } => write!(text, "57014: cancelled")?,
+    match part {
+        Part::Setup => false,
+        Part::Step => true,
     }
-    Ok(())
 }
 
-fn push_many_values(text: &mut String, want: u32, got: u32) -> Result<(), NoMemory>
-    ensures ok { OnOk result
-        (string_bytes text.new ≡ string_bytes text.old ++ many_values_text want got) }
-{
-    write!(text, "42601: INSERT has {got} values for {want} columns")?;
-    Ok(())
-}
-
-fn push_tag(text: &mut String, tag: Tag, count: u32) -> Result<(), NoMemory>
-    ensures ok { OnOk result (string_bytes text.new ≡ string_bytes text.old ++ tag_text tag count) }
-{
-    match tag {
-        Tag::Begin => text.push_str("BEGIN")?,
-        Tag::Commit => text.push_str("COMMIT")?,
-        Tag::Rollback => text.push_str("ROLLBACK")?,
-        Tag::CreateTable => text.push_str("CREATE TABLE")?,
-        Tag::AlterTable => text.push_str("ALTER TABLE")?,
-        Tag::Insert => write!(text, "INSERT 0 {count}")?,
-    }
-    Ok(())
-}
-
-fn push_row_count(text: &mut String, count: usize) -> Result<(), NoMemory>
-    ensures ok { OnOk result
-        (string_bytes text.new ≡ string_bytes text.old ++ row_count_text count) }
-{
-    if count == 1 {
-        text.push_str("(1 row)\n")?;
-    } else {
-        write!(text, "({count} rows)\n")?;
-    }
-    Ok(())
-}
-
-fn push_names(text: &mut String, names: &[Name]) -> Result<(), NoMemory>
-    ensures ok { OnOk result
-        (string_bytes text.new ≡ string_bytes text.old ++ join_by (λ name. name) (codes "|") names.now) }
-{
-    let Some((first, others)) = names.split_first() else {
-        return Ok(());
-    };
-    text.push_str(first.as_str())?;
-    for name in others {
-        text.push_str("|")?;
-        text.push_str(name.as_str())?;
-    }
-    Ok(())
-}
-
-fn push_row(text: &mut String, row: &[Value]) -> Result<(), NoMemory>
-    ensures ok { OnOk result
-        (string_bytes text.new ≡ string_bytes text.old ++ join_by printed (codes "|") row.now) }
-{
-    let Some((first, others)) = row.split_first() else {
-        return Ok(());
-    };
-    write!(text, "{first}")?;
-    for value in others {
-        write!(text, "|{value}")?;
-    }
-    Ok(())
-}
-
-fn push_all_rows(text: &mut String, rows: &[Row]) -> Result<(), NoMemory>
-    ensures ok { OnOk result
-        (string_bytes text.new ≡ string_bytes text.old ++ flat_map row_text rows.now) }
-{
-    for row in rows {
-        push_row(text, row.as_slice())?;
-        text.push_str("\n")?;
-    }
-    Ok(())
-}
-
-fn push_rows(text: &mut String, entry: &Entry) -> Result<(), NoMemory>
-    ensures ok { OnOk result
-        (string_bytes text.new ≡ string_bytes text.old ++ rows_text entry.now) }
-{
-    if let Entry::Read { names, rows, .. } = entry {
-        push_names(text, names.as_slice())?;
-        text.push_str("\n")?;
-        push_all_rows(text, rows.as_slice())?;
-        push_row_count(text, rows.len())?;
-    }
-    Ok(())
-}
-
-fn push_reply(text: &mut String, journal: &[Entry], reply: Reply) -> Result<(), NoMemory>
-    ensures ok { OnOk result
-        (string_bytes text.new ≡ string_bytes text.old ++ reply_text journal.now reply) }
-{
-    match reply {
-        Reply::Tag { tag, count } => {
-            push_tag(text, tag, count)?;
-            text.push_str("\n")?;
-        }
-        Reply::Rows { entry } => {
-            if let Some(read) = journal.get(entry as usize) {
-                push_rows(text, read)?;
-            }
-        }
-    }
-    Ok(())
-}
-
-fn push_head(text: &mut String, number: u32, block: &Block) -> Result<(), NoMemory>
-    ensures ok { OnOk result
-        (string_bytes text.new ≡ string_bytes text.old ++ head_text number block.now) }
-{
-    match block.part {
-        Part::Setup => {
-            let place = u64::from(number) + 1;
-            write!(text, "setup {place}\n")?;
-        }
-        Part::Step => {
-            let name = block.name.as_str();
-            let statements = block.text.as_str();
-            write!(text, "step {name}: {statements}\n")?;
-        }
-    }
-    Ok(())
-}
-
-fn push_entry(
-    text: &mut String,
-    blocks: &[Block],
-    journal: &[Entry],
-    entry: &Entry,
-) -> Result<(), NoMemory>
-    ensures ok { OnOk result
-        (string_bytes text.new ≡ string_bytes text.old ++ entry_text blocks.now journal.now entry.now) }
+fn gives_step(blocks: &[Block], entry: &Entry) -> bool
+    ensures { result ≡ gives_step blocks.now entry.now }
 {
     match entry {
-        Entry::Give { block, .. } => {
-            if let Some(given) = blocks.get(*block as usize) {
-                push_head(text, *block, given)?;
-            }
+        Entry::Give { block, .. } => match blocks.get(*block as usize) {
+            Some(given) => is_step(given.part),
+            None => false,
+        },
+        _ => false,
+    }
+}
+
+fn steps_given(blocks: &[Block], journal: &[Entry]) -> usize
+    ensures { result ≡ count_by (gives_step blocks.now) journal.now }
+{
+    let mut count: usize = 0;
+    for entry in journal {
+        if gives_step(blocks, entry) {
+            count += 1;
         }
-        Entry::Done { reply, .. } => push_reply(text, journal, *reply)?,
-        Entry::Refuse { cause, .. } => {
-            text.push_str("ERROR: ")?;
-            push_cause(text, cause)?;
-            text.push_str("\n")?;
+    }
+    count
+}
+
+fn giving_end(journal: &[Entry]) -> usize
+    ensures end { result ≡ giving_end journal.now }
+    ensures within { result ≤ length journal.now }
+{
+    for (place, entry) in journal.iter().enumerate() {
+        match entry {
+            Entry::Cancel { .. } | Entry::Close { .. } => return place,
+            _ => {}
         }
-        _ => {}
+    }
+    journal.len()
+}
+
+fn push_session_name(text: &mut String, sessions: &[Name], session: u32) -> Result<(), NoMemory>
+    ensures ok { OnOk result
+        (string_bytes text.new ≡ string_bytes text.old ++ session_name sessions.now session) }
+{
+    if session == 0 {
+        return Ok(());
+    }
+    if let Some(name) = sessions.get((session - 1) as usize) {
+        push_name(text, name)?;
     }
     Ok(())
 }
 
-fn push_journal(text: &mut String, blocks: &[Block], journal: &[Entry]) -> Result<(), NoMemory>
+fn push_blocked(text: &mut String, sessions: &[Name], block: &Block) -> Result<(), NoMemory>
     ensures ok { OnOk result
-        (string_bytes text.new ≡ string_bytes text.old ++ journal_text blocks.now journal.now) }
+        (string_bytes text.new ≡ string_bytes text.old ++ blocked_text sessions.now block.now) }
 {
-    for entry in journal {
-        push_entry(text, blocks, journal, entry)?;
+    push_step(text, block)?;
+    text.push_str(": not given, session ")?;
+    push_session_name(text, sessions, block.session)?;
+    text.push_str(" is blocked\n")?;
+    Ok(())
+}
+
+fn push_blocked_step(
+    text: &mut String,
+    sessions: &[Name],
+    blocks: &[Block],
+    step: u32,
+) -> Result<(), NoMemory>
+    ensures ok { OnOk result
+        (string_bytes text.new ≡ string_bytes text.old ++ text_at (blocked_text sessions.now) blocks.now step) }
+{
+    if let Some(block) = blocks.get(step as usize) {
+        push_blocked(text, sessions, block)?;
     }
+    Ok(())
+}
+
+fn push_rest(
+    text: &mut String,
+    spec: &Spec,
+    journal: &[Entry],
+    steps: &[u32],
+) -> Result<(), NoMemory>
+    ensures ok { OnOk result
+        (string_bytes text.new ≡ string_bytes text.old ++ rest_text spec.now journal.now steps.now) }
+{
+    let count = steps_given(spec.blocks.as_slice(), journal);
+    if let Some(step) = steps.get(count) {
+        push_blocked_step(
+            text,
+            spec.sessions.as_slice(),
+            spec.blocks.as_slice(),
+            *step,
+        )?;
+    }
+    Ok(())
+}
+
+fn push_not_given(
+    text: &mut String,
+    spec: &Spec,
+    number: u32,
+    setup: Setup,
+    journal: &[Entry],
+) -> Result<(), NoMemory>
+    ensures ok { OnOk result
+        (string_bytes text.new ≡ string_bytes text.old ++ not_given_text spec.now number setup journal.now) }
+{
+    match setup {
+        Setup::Done => {
+            if number == 0 {
+                return Ok(());
+            }
+            if let Some(steps) = spec.permutations.get((number - 1) as usize) {
+                push_rest(text, spec, journal, steps.as_slice())?;
+            }
+            Ok(())
+        }
+        Setup::Failed { .. } => Ok(()),
+    }
+}
+
+fn push_journal(
+    text: &mut String,
+    spec: &Spec,
+    number: u32,
+    setup: Setup,
+    journal: &[Entry],
+) -> Result<(), NoMemory>
+    ensures ok { OnOk result
+        (string_bytes text.new ≡ string_bytes text.old ++ journal_text spec.now number setup journal.now) }
+{
+    let blocks = spec.blocks.as_slice();
+    let end = giving_end(journal);
+    push_entries(text, blocks, journal, 0, end)?;
+    push_not_given(text, spec, number, setup, journal)?;
+    push_entries(text, blocks, journal, end, journal.len())?;
     Ok(())
 }
 
@@ -198,7 +177,7 @@ fn push_step_name(text: &mut String, blocks: &[Block], step: u32) -> Result<(), 
         (string_bytes text.new ≡ string_bytes text.old ++ step_name blocks.now step) }
 {
     if let Some(block) = blocks.get(step as usize) {
-        text.push_str(block.name.as_str())?;
+        push_name(text, &block.name)?;
     }
     Ok(())
 }
@@ -256,7 +235,13 @@ fn push_run(text: &mut String, spec: &Spec, run: &Run) -> Result<(), NoMemory>
         (string_bytes text.new ≡ string_bytes text.old ++ run_text spec.now run.now) }
 {
     push_title(text, spec, run.permutation)?;
-    push_journal(text, spec.blocks.as_slice(), run.history.entries())?;
+    push_journal(
+        text,
+        spec,
+        run.permutation,
+        run.setup,
+        run.history.entries(),
+    )?;
     push_setup(text, run.setup)?;
     Ok(())
 }

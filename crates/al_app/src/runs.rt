@@ -1,22 +1,58 @@
 //! The runs of a spec file: what the driver gives to the engine, and in which order.
-ghost use Rattle.std.specs.Prelude.{◌≡◌, ℕ, ◌<◌, ◌≤◌, ◌+◌, ◌-◌, ◌^◌, [], false, None, Some, length, slice_get, option_map, IfOk, OnOk};
+ghost use Rattle.std.specs.Prelude.{◌≡◌, ℕ, ◌<◌, ◌≤◌, ◌+◌, ◌^◌, [], false, None, Some, length, slice_get, option_map, IfOk, OnOk};
 ghost use Rattle.std.specs.List.{AllByRecursion};
-ghost use Rattle.al_history.specs.Hand.{closed};
-ghost use Rattle.al_history.specs.Whole.{IsRun, failed_setup};
+ghost use Rattle.al_history.specs.declared.run.Setup.TheVariants as setups;
+ghost use Rattle.al_history.specs.Hand.{hand, closed};
+ghost use Rattle.al_history.specs.Whole.{IsRun, IsLeast};
 ghost use Rattle.al_engine.specs.Ran.{Ran};
-ghost use Rattle.al_app.specs.FirstShape.{IsStepAt};
-ghost use Rattle.al_app.specs.Runs.{IsRunnable, IsAtRest, HasRunBlock, SetupRan, SetupSoFar, SetupGoesOn, StepsRan, SessionsClosed, IsAnyOpen, IsEnded};
+ghost use Rattle.al_app.specs.FirstSessions.{IsSessionStepAt};
+ghost use Rattle.al_app.specs.Runs.{IsRunnable, HasTurned, IsDriven, IsAtRest, HasRunBlock, CancelsIfBusy, IsNoneBusy, SetupRan, SetupSoFar, SetupGoesOn, StepsRan, SessionsCancelled, SessionsClosed, IsEnded};
 
 use al_engine::{Busy, Engine, Told};
 use al_history::{Block, Part, Run, Scripts, Setup, Spec};
 use al_values::{Cant, NoMemory, count_of};
 use std::alloc::Global;
 
-/// Gives a block to its session, which has none in hand, and runs it. It tells whether its statement was refused.
+/// More turns than a journal has places.
+const MOST_TURNS: u64 = 4_294_967_296;
+
+/// Goes on with the step in hand of the least session that can go on. It tells whether the step was refused.
+fn take_turn(alloc: Global, engine: &mut Engine, session: u32) -> Result<bool, NoMemory>
+    requires known { session < engine.old.scripts.sessions }
+    requires least { IsLeast engine.old.past session }
+    ensures { IfOk result (λ refused. HasTurned engine.old engine.new refused) }
+{
+    match engine.turn(alloc, session)? {
+        Told::Went {
+            from: _,
+            to: _,
+            refused,
+        } => Ok(refused),
+        Told::Waits => unreachable!(),
+        Told::Idle => unreachable!(),
+    }
+}
+
+/// Goes on with the steps in hand until no session can go on. It tells whether one was refused.
+fn drive(alloc: Global, engine: &mut Engine) -> Result<bool, NoMemory>
+    ensures { IfOk result (λ refused. IsDriven engine.old engine.new refused) }
+{
+    let mut refused = false;
+    for _turn in 0..MOST_TURNS {
+        let Some(session) = engine.ready() else {
+            return Ok(refused);
+        };
+        refused |= take_turn(alloc, engine, session)?;
+    }
+    unreachable!()
+}
+
+/// Gives a block to its session, which has no step in hand, and drives. It tells whether a step was refused.
 fn run_block(alloc: Global, engine: &mut Engine, session: u32, block: u32) -> Result<bool, NoMemory>
     requires known { session < engine.old.scripts.sessions }
     requires of_session { option_map (λ b. b.session) (slice_get engine.old.scripts.blocks block) ≡ Some session }
     requires not_closed { closed engine.old.past session ≡ false }
+    requires idle { hand engine.old.past session ≡ None }
     requires rest { IsAtRest engine.old }
     ensures { IfOk result (λ refused. HasRunBlock engine.old engine.new session block refused) }
 {
@@ -25,17 +61,25 @@ fn run_block(alloc: Global, engine: &mut Engine, session: u32, block: u32) -> Re
         Err(Cant::NoMemory) => return Err(NoMemory),
         Err(Cant::Why(Busy)) => unreachable!(),
     }
-    match engine.turn(alloc, session)? {
-        Told::Went {
-            from: _,
-            to: _,
-            refused,
-        } => Ok(refused),
-        Told::Idle => unreachable!(),
-    }
+    drive(alloc, engine)
 }
 
-/// Runs the block of this number, if it is one of the setup part. It tells whether its statement was refused.
+/// Cancels the session's step in hand, where it has one, and drives. It tells whether it had one.
+fn cancel_if_busy(alloc: Global, engine: &mut Engine, session: u32) -> Result<bool, NoMemory>
+    requires known { session < engine.old.scripts.sessions }
+    requires rest { IsAtRest engine.old }
+    ensures { IfOk result (λ cancelled. CancelsIfBusy engine.old engine.new session cancelled) }
+{
+    if !engine.is_busy(session) {
+        return Ok(false);
+    }
+    engine.cancel(session);
+    drive(alloc, engine)?;
+    Ok(true)
+}
+
+/// Runs the block of this number, if it is one of the setup part. A step that still waits is cancelled. It tells whether the
+/// block was refused or cancelled.
 fn run_setup_block(
     alloc: Global,
     engine: &mut Engine,
@@ -44,20 +88,26 @@ fn run_setup_block(
     block: &Block,
 ) -> Result<bool, NoMemory>
     requires runnable { IsRunnable spec.now engine.old.scripts }
+    requires sessions { engine.old.scripts.sessions ≡ length spec.now.sessions + 1 }
     requires there { slice_get spec.now.blocks number ≡ Some block.now }
     requires so_far { SetupSoFar spec.now engine.old number }
-    ensures ran { IfOk result (λ refused. SetupGoesOn spec.now engine.new number refused) }
+    ensures ran { IfOk result (λ failed. SetupGoesOn spec.now engine.new number failed) }
     ensures scripts { OnOk result (engine.new.scripts ≡ engine.old.scripts) }
 {
     match block.part {
         Part::Step => Ok(false),
-        Part::Setup => run_block(alloc, engine, block.session, number),
+        Part::Setup => {
+            let mut failed = run_block(alloc, engine, block.session, number)?;
+            failed |= cancel_if_busy(alloc, engine, block.session)?;
+            Ok(failed)
+        }
     }
 }
 
-/// Gives the setup blocks in the file's order, up to the first that is refused.
+/// Gives the setup blocks in the file's order, up to the first that is refused or cancelled.
 fn run_setup(alloc: Global, engine: &mut Engine, spec: &Spec) -> Result<Setup, NoMemory>
     requires runnable { IsRunnable spec.now engine.old.scripts }
+    requires sessions { engine.old.scripts.sessions ≡ length spec.now.sessions + 1 }
     requires opened { engine.old.past ≡ [] }
     ensures ran { IfOk result (λ setup. SetupRan spec.now engine.new setup) }
     ensures scripts { OnOk result (engine.new.scripts ≡ engine.old.scripts) }
@@ -71,37 +121,75 @@ fn run_setup(alloc: Global, engine: &mut Engine, spec: &Spec) -> Result<Setup, N
     Ok(Setup::Done)
 }
 
-/// Gives the steps of a permutation in order.
+/// Gives the steps of a permutation in order. A step for a busy session isn't given, and ends the list.
 fn run_steps(alloc: Global, engine: &mut Engine, spec: &Spec, steps: &[u32]) -> Result<(), NoMemory>
     requires runnable { IsRunnable spec.now engine.old.scripts }
-    requires are_steps { AllByRecursion (IsStepAt spec.now.blocks) steps.now }
-    requires none_failed { failed_setup spec.now engine.old.past ≡ None }
-    requires any_open { IsAnyOpen engine.old }
-    requires rest { IsAtRest engine.old }
-    ensures { OnOk result (StepsRan spec.now engine.old engine.new steps.now) }
+    requires are_steps { AllByRecursion (IsSessionStepAt (length spec.now.sessions) spec.now.blocks) steps.now }
+    requires sessions { engine.old.scripts.sessions ≡ length spec.now.sessions + 1 }
+    requires set_up { SetupRan spec.now engine.old setups.Done }
+    ensures ran { OnOk result (StepsRan spec.now steps.now engine.new) }
+    ensures scripts { OnOk result (engine.new.scripts ≡ engine.old.scripts) }
 {
     for step in steps {
         let session = spec.blocks.get(*step as usize).unwrap().session;
+        if engine.is_busy(session) {
+            return Ok(());
+        }
         run_block(alloc, engine, session, *step)?;
     }
     Ok(())
 }
 
-/// Closes so many sessions from the first on.
+/// Cancels the steps in hand of the sessions below this one, in ascending order, driving after each.
+fn cancel_busy(alloc: Global, engine: &mut Engine, end: u32) -> Result<(), NoMemory>
+    requires known { end ≤ engine.old.scripts.sessions }
+    requires rest { IsAtRest engine.old }
+    ensures { OnOk result (SessionsCancelled engine.old engine.new end) }
+{
+    for session in 0..end {
+        cancel_if_busy(alloc, engine, session)?;
+    }
+    Ok(())
+}
+
+/// Closes the sessions from the first on, up to and without the end.
 fn close_sessions(engine: &mut Engine, first: u32, end: u32)
     requires known { end ≤ engine.old.scripts.sessions }
     requires in_order { first ≤ end }
     requires still_open { (s : ℕ) → first ≤ s → s < end → closed engine.old.past s ≡ false }
-    requires rest { IsAtRest engine.old }
-    ensures { SessionsClosed engine.old engine.new first (end - first) }
+    requires none_busy { IsNoneBusy engine.old.past }
+    ensures { SessionsClosed engine.old engine.new first end }
 {
     for session in first..end {
         engine.close_session(session);
     }
 }
 
-/// Ends a run whose setup part ended so: the steps and then the closes, the control session's last, or, where the setup
-/// part failed, all closes in ascending order.
+/// Ends a run whose setup part didn't fail: the steps, then the cancels of those that wait still, then the closes, the control
+/// session's last.
+fn finish_steps(
+    alloc: Global,
+    engine: &mut Engine,
+    spec: &Spec,
+    steps: &[u32],
+) -> Result<(), NoMemory>
+    requires runnable { IsRunnable spec.now engine.old.scripts }
+    requires sessions { engine.old.scripts.sessions ≡ length spec.now.sessions + 1 }
+    requires countable { length spec.now.sessions + 1 < 2 ^ 32 }
+    requires are_steps { AllByRecursion (IsSessionStepAt (length spec.now.sessions) spec.now.blocks) steps.now }
+    requires set_up { SetupRan spec.now engine.old setups.Done }
+    ensures ran { OnOk result (IsEnded spec.now engine.new steps.now setups.Done) }
+    ensures scripts { OnOk result (engine.new.scripts ≡ engine.old.scripts) }
+{
+    let end = spec.sessions.len() as u32 + 1;
+    run_steps(alloc, engine, spec, steps)?;
+    cancel_busy(alloc, engine, end)?;
+    close_sessions(engine, 1, end);
+    close_sessions(engine, 0, 1);
+    Ok(())
+}
+
+/// Ends a run whose setup part ended so. Where it failed, all sessions are closed, in ascending order.
 fn finish(
     alloc: Global,
     engine: &mut Engine,
@@ -112,21 +200,18 @@ fn finish(
     requires runnable { IsRunnable spec.now engine.old.scripts }
     requires sessions { engine.old.scripts.sessions ≡ length spec.now.sessions + 1 }
     requires countable { length spec.now.sessions + 1 < 2 ^ 32 }
-    requires are_steps { AllByRecursion (IsStepAt spec.now.blocks) steps.now }
+    requires are_steps { AllByRecursion (IsSessionStepAt (length spec.now.sessions) spec.now.blocks) steps.now }
     requires set_up { SetupRan spec.now engine.old setup }
     ensures ran { OnOk result (IsEnded spec.now engine.new steps.now setup) }
     ensures scripts { OnOk result (engine.new.scripts ≡ engine.old.scripts) }
 {
-    let end = spec.sessions.len() as u32 + 1;
     match setup {
-        Setup::Failed { .. } => close_sessions(engine, 0, end),
-        Setup::Done => {
-            run_steps(alloc, engine, spec, steps)?;
-            close_sessions(engine, 1, end);
-            close_sessions(engine, 0, 1);
+        Setup::Failed { .. } => {
+            close_sessions(engine, 0, spec.sessions.len() as u32 + 1);
+            Ok(())
         }
+        Setup::Done => finish_steps(alloc, engine, spec, steps),
     }
-    Ok(())
 }
 
 /// Runs one permutation from an empty database.
@@ -140,7 +225,7 @@ pub fn run_permutation(
     requires runnable { IsRunnable spec.now scripts }
     requires sessions { scripts.sessions ≡ length spec.now.sessions + 1 }
     requires countable { length spec.now.sessions + 1 < 2 ^ 32 }
-    requires are_steps { AllByRecursion (IsStepAt spec.now.blocks) steps.now }
+    requires are_steps { AllByRecursion (IsSessionStepAt (length spec.now.sessions) spec.now.blocks) steps.now }
     ensures { IfOk result (λ run. IsRun spec.now scripts number steps.now run) }
 {
     let mut engine = Engine::open(alloc, scripts)?;

@@ -1,27 +1,33 @@
-ghost use Rattle.std.specs.Prelude.{◌≡◌, ℕ, List, [], ◌∷◌, Some, None, ◌<◌, length, position, IfOk, IfSome};
+ghost use Rattle.std.specs.Prelude.{◌≡◌, ℕ, List, [], ◌∷◌, ◌+◌, Some, None, ◌<◌, length, position, true, IfOk, IfSome};
 ghost use Rattle.std.specs.Option.{option_map};
 ghost use Rattle.al_app.specs.FirstSteps.{Gives};
 ghost use Rattle.al_app.specs.First.{setup_block, step_block, is_step};
-ghost use Rattle.al_app.specs.FirstReading.{each_from, setup_at, setups_from, session_at, step_at, steps_from, permutation_at, number_of, script_of, is_bounded, spec_of, first_of, HasPlaces};
+ghost use Rattle.al_app.specs.FirstReading.{each_from, setup_at, setups_from, session_at, step_at, so_far, with_session, with_step, sessions_from, permutation_at, number_of, script_of, is_bounded, spec_of, first_of, HasPlaces};
 
 use crate::first::outside::{NOT_YET, Token, tokens_of};
 use crate::first::statement::statement_of;
 use al_history::{Block, Part, ScriptBlock, ScriptList, Scripts, Spec, SpecFault};
-use al_values::{Cant, Copied, IdList, ListOf, Name, NoMemory, Txt};
+use al_values::{Cant, Copied, IdList, ListOf, NameList, NoMemory, Txt, count_of};
 use std::alloc::Global;
 use std::collections::BTreeMap;
 
 // The most bytes of a spec file.
 const MOST_BYTES: usize = 65_536;
 
+// The most sessions of a spec file.
+const MOST_SESSIONS: usize = 62;
+
 // The most blocks that a run gives.
 const MOST_GIVEN: usize = 100;
 
-// The blocks, and at each step's name its number.
+// What has been read of the sessions: their names, the blocks so far, at each step's name its number, and whether the
+// last session has no step yet.
 #[derive(Drop)]
-struct Steps {
+struct Sessions {
+    names: NameList,
     blocks: Vec<Block>,
     places: BTreeMap<String, usize>,
+    lacks: bool,
 }
 
 fn single<T: Drop>(alloc: Global, item: T) -> Result<ListOf<T>, NoMemory>
@@ -68,15 +74,13 @@ fn setups_from(alloc: Global, tokens: &[Token]) -> Result<(Vec<Block>, &[Token])
 }
 
 #[tactic(auto, unfolding(crate::specs::FirstReading::session_at))]
-fn session_at(alloc: Global, tokens: &[Token]) -> Result<(Name, &[Token]), Cant<SpecFault>>
-    ensures { Gives (λ x. (x.0, x.1.now)) result (session_at tokens.now) }
+fn session_at(tokens: &[Token]) -> Option<(&Txt, &[Token])>
+    ensures value { option_map (λ x. (x.0.now, x.1.now)) result ≡ session_at tokens.now }
+    ensures shorter { IfSome result (λ x. length x.1.now < length tokens.now) }
 {
     match tokens {
-        [Token::Session, Token::Name(name), rest @ ..] => {
-            let name = name.copied(alloc)?;
-            Ok((name, rest))
-        }
-        _ => Err(NOT_YET),
+        [Token::Session, Token::Name(name), rest @ ..] => Some((name, rest)),
+        _ => None,
     }
 }
 
@@ -96,40 +100,95 @@ fn step_at(tokens: &[Token]) -> Option<(&Txt, &Txt, &[Token])>
     }
 }
 
-fn step_block(alloc: Global, name: &Txt, text: &Txt) -> Result<Block, NoMemory>
-    ensures { IfOk result (λ block. block ≡ step_block (record { name = name.now; text = text.now })) }
+fn step_block(alloc: Global, session: u32, name: &Txt, text: &Txt) -> Result<Block, NoMemory>
+    ensures { IfOk result (λ block. block ≡ step_block session (record { name = name.now; text = text.now })) }
 {
     Ok(Block {
         part: Part::Step,
-        session: 1,
+        session,
         name: name.copied(alloc)?,
         text: text.copied(alloc)?,
     })
 }
 
-fn steps_from(
-    alloc: Global,
-    front: Vec<Block>,
-    tokens: &[Token],
-) -> Result<(Steps, &[Token]), Cant<SpecFault>>
+// The first session, behind the setup blocks.
+fn begun(alloc: Global, front: Vec<Block>, name: &Txt) -> Result<Sessions, NoMemory>
     requires { (name : List ℕ) → position (is_step name) front.items ≡ None }
-    ensures steps { Gives (λ x. (x.0.blocks.items, x.1.now)) result (steps_from front.items tokens.now) }
+    ensures read { IfOk result (λ x. so_far x.names x.blocks.items x.lacks ≡ so_far (name.now ∷ []) front.items true) }
+    ensures places { IfOk result (λ x. HasPlaces x.places x.blocks.items) }
+{
+    let name = name.copied(alloc)?;
+    let names = single(alloc, name)?;
+    Ok(Sessions {
+        names,
+        blocks: front,
+        places: BTreeMap::new(alloc),
+        lacks: true,
+    })
+}
+
+#[tactic(auto, unfolding(crate::specs::FirstReading::with_session))]
+fn with_session(alloc: Global, read: Sessions, name: &Txt) -> Result<Sessions, Cant<SpecFault>>
+    requires { HasPlaces read.places read.blocks.items }
+    ensures read { Gives (λ x. so_far x.names x.blocks.items x.lacks) result (with_session name.now (so_far read.names read.blocks.items read.lacks)) }
+    ensures places { IfOk result (λ x. HasPlaces x.places x.blocks.items) }
+{
+    let mut read = read;
+    if read.lacks {
+        return Err(NOT_YET);
+    }
+    let name = name.copied(alloc)?;
+    read.names.push(name)?;
+    read.lacks = true;
+    Ok(read)
+}
+
+#[tactic(auto, unfolding(crate::specs::FirstReading::with_step))]
+fn with_step(
+    alloc: Global,
+    read: Sessions,
+    name: &Txt,
+    text: &Txt,
+) -> Result<Sessions, Cant<SpecFault>>
+    requires { HasPlaces read.places read.blocks.items }
+    ensures read { Gives (λ x. so_far x.names x.blocks.items x.lacks) result (with_step (record { name = name.now; text = text.now }) (so_far read.names read.blocks.items read.lacks)) }
+    ensures places { IfOk result (λ x. HasPlaces x.places x.blocks.items) }
+{
+    let mut read = read;
+    if read.places.contains_key(name.as_str()) {
+        return Err(NOT_YET);
+    }
+    let session = count_of(read.names.len())?;
+    let block = step_block(alloc, session, name, text)?;
+    let key = String::from_str(alloc, name.as_str())?;
+    read.places.insert(key, read.blocks.len())?;
+    read.blocks.push(block)?;
+    read.lacks = false;
+    Ok(read)
+}
+
+fn sessions_from(
+    alloc: Global,
+    first: Sessions,
+    tokens: &[Token],
+) -> Result<(Sessions, &[Token]), Cant<SpecFault>>
+    requires { HasPlaces first.places first.blocks.items }
+    ensures read { Gives (λ x. (so_far x.0.names x.0.blocks.items x.0.lacks, x.1.now)) result (sessions_from (so_far first.names first.blocks.items first.lacks) tokens.now) }
     ensures places { IfOk result (λ x. HasPlaces x.0.places x.0.blocks.items) }
 {
-    let mut blocks = front;
-    let mut places: BTreeMap<String, usize> = BTreeMap::new(alloc);
+    let mut read = first;
     let mut rest = tokens;
-    while let Some((name, text, after)) = step_at(rest) {
-        if places.contains_key(name.as_str()) {
-            return Err(NOT_YET);
+    loop {
+        if let Some((name, after)) = session_at(rest) {
+            read = with_session(alloc, read, name)?;
+            rest = after;
+        } else if let Some((name, text, after)) = step_at(rest) {
+            read = with_step(alloc, read, name, text)?;
+            rest = after;
+        } else {
+            return Ok((read, rest));
         }
-        let block = step_block(alloc, name, text)?;
-        let key = String::from_str(alloc, name.as_str())?;
-        places.insert(key, blocks.len())?;
-        blocks.push(block)?;
-        rest = after;
     }
-    Ok((Steps { blocks, places }, rest))
 }
 
 #[tactic(auto, unfolding(crate::specs::FirstReading::permutation_at))]
@@ -143,14 +202,14 @@ fn permutation_at(tokens: &[Token]) -> Result<&[Token], Cant<SpecFault>>
 }
 
 #[tactic(auto, unfolding(crate::specs::FirstReading::number_of))]
-fn number_of(steps: &Steps, token: &Token) -> Result<u32, Cant<SpecFault>>
-    requires { HasPlaces steps.now.places steps.now.blocks.items }
-    ensures { Gives (λ x. x) result (number_of steps.now.blocks.items token.now) }
+fn number_of(sessions: &Sessions, token: &Token) -> Result<u32, Cant<SpecFault>>
+    requires { HasPlaces sessions.now.places sessions.now.blocks.items }
+    ensures { Gives (λ x. x) result (number_of sessions.now.blocks.items token.now) }
 {
     let Token::Name(name) = token else {
         return Err(NOT_YET);
     };
-    let Some(place) = steps.places.get(name.as_str()) else {
+    let Some(place) = sessions.places.get(name.as_str()) else {
         return Err(NOT_YET);
     };
     match u32::try_from(*place) {
@@ -159,13 +218,17 @@ fn number_of(steps: &Steps, token: &Token) -> Result<u32, Cant<SpecFault>>
     }
 }
 
-fn numbers_from(alloc: Global, steps: &Steps, names: &[Token]) -> Result<IdList, Cant<SpecFault>>
-    requires { HasPlaces steps.now.places steps.now.blocks.items }
-    ensures { Gives (λ x. x) result (each_from (number_of steps.now.blocks.items) [] names.now) }
+fn numbers_from(
+    alloc: Global,
+    sessions: &Sessions,
+    names: &[Token],
+) -> Result<IdList, Cant<SpecFault>>
+    requires { HasPlaces sessions.now.places sessions.now.blocks.items }
+    ensures { Gives (λ x. x) result (each_from (number_of sessions.now.blocks.items) [] names.now) }
 {
     let mut numbers = ListOf::new(alloc);
     for token in names {
-        let number = number_of(steps, token)?;
+        let number = number_of(sessions, token)?;
         numbers.push(number)?;
     }
     Ok(numbers)
@@ -195,10 +258,13 @@ fn scripts_from(alloc: Global, blocks: &[Block]) -> Result<ScriptList, Cant<Spec
 }
 
 #[tactic(auto, unfolding(crate::specs::FirstReading::is_bounded))]
-fn is_bounded(setups: usize, blocks: usize, numbers: usize) -> bool
-    ensures { result ≡ is_bounded setups blocks numbers }
+fn is_bounded(lacks: bool, sessions: usize, setups: usize, numbers: usize) -> bool
+    ensures { result ≡ is_bounded lacks sessions setups numbers }
 {
-    if setups >= blocks {
+    if lacks {
+        return false;
+    }
+    if sessions > MOST_SESSIONS {
         return false;
     }
     if numbers == 0 {
@@ -213,20 +279,33 @@ fn spec_of(alloc: Global, tokens: &[Token]) -> Result<Spec, Cant<SpecFault>>
 {
     let (setups, rest) = setups_from(alloc, tokens)?;
     let count = setups.len();
-    let (session, rest) = session_at(alloc, rest)?;
-    let (steps, rest) = steps_from(alloc, setups, rest)?;
+    let Some((name, rest)) = session_at(rest) else {
+        return Err(NOT_YET);
+    };
+    let first = begun(alloc, setups, name)?;
+    let (sessions, rest) = sessions_from(alloc, first, rest)?;
     let names = permutation_at(rest)?;
-    let numbers = numbers_from(alloc, &steps, names)?;
-    if !is_bounded(count, steps.blocks.len(), numbers.len()) {
+    let numbers = numbers_from(alloc, &sessions, names)?;
+    if !is_bounded(sessions.lacks, sessions.names.len(), count, numbers.len()) {
         return Err(NOT_YET);
     }
-    let sessions = single(alloc, session)?;
     let permutations = single(alloc, numbers)?;
     Ok(Spec {
-        sessions,
-        blocks: ListOf::from_vec(steps.blocks),
+        sessions: sessions.names,
+        blocks: ListOf::from_vec(sessions.blocks),
         permutations,
     })
+}
+
+// The number of sessions of a run: the file's and the control session.
+fn session_count(spec: &Spec) -> Result<u32, NoMemory>
+    ensures { IfOk result (λ count. count ≡ length spec.now.sessions + 1) }
+{
+    let count = count_of(spec.sessions.len())?;
+    match count.checked_add(1) {
+        Some(count) => Ok(count),
+        None => Err(NoMemory),
+    }
 }
 
 /// The spec file that bytes spell, and its statements.
@@ -240,11 +319,6 @@ pub fn first_of(alloc: Global, bytes: &[u8]) -> Result<(Spec, Scripts), Cant<Spe
     let tokens = tokens_of(alloc, bytes)?;
     let spec = spec_of(alloc, tokens.as_slice())?;
     let blocks = scripts_from(alloc, spec.blocks.as_slice())?;
-    Ok((
-        spec,
-        Scripts {
-            sessions: 2,
-            blocks,
-        },
-    ))
+    let sessions = session_count(&spec)?;
+    Ok((spec, Scripts { sessions, blocks }))
 }

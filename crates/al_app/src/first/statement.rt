@@ -1,6 +1,6 @@
 ghost use Rattle.std.specs.Prelude.{◌≡◌};
 ghost use Rattle.al_app.specs.FirstSteps.{Gives};
-ghost use Rattle.al_app.specs.FirstReading.{create_at, insert_at, select_at, alter_at, one_at, statement_of};
+ghost use Rattle.al_app.specs.FirstReading.{create_at, insert_at, select_at, alter_at, alone_at, control_at, one_at, statement_of};
 
 use crate::first::inside::{Lexeme, lexemes_of};
 use crate::first::outside::NOT_YET;
@@ -62,6 +62,32 @@ fn alter_at(alloc: Global, lexemes: &[Lexeme]) -> Result<(Statement, &[Lexeme]),
     Ok((Statement::AddColumn { table, column }, rest))
 }
 
+// A statement of one word.
+#[tactic(auto, unfolding(crate::specs::FirstReading::alone_at))]
+fn alone_at<'a>(
+    lexemes: &'a [Lexeme],
+    wanted: &str,
+    one: Statement,
+) -> Result<(Statement, &'a [Lexeme]), Cant<SpecFault>>
+    ensures { Gives (λ x. (x.0, x.1.now)) result (alone_at wanted.now one lexemes.now) }
+{
+    let rest = word_at(lexemes, wanted)?;
+    Ok((one, rest))
+}
+
+#[tactic(auto, unfolding(crate::specs::FirstReading::control_at))]
+fn control_at(lexemes: &[Lexeme]) -> Result<(Statement, &[Lexeme]), Cant<SpecFault>>
+    ensures { Gives (λ x. (x.0, x.1.now)) result (control_at lexemes.now) }
+{
+    if starts(lexemes, "begin") {
+        return alone_at(lexemes, "begin", Statement::Begin);
+    }
+    if starts(lexemes, "commit") {
+        return alone_at(lexemes, "commit", Statement::Commit);
+    }
+    alone_at(lexemes, "rollback", Statement::Rollback)
+}
+
 #[tactic(auto, unfolding(crate::specs::FirstReading::one_at))]
 fn one_at(alloc: Global, lexemes: &[Lexeme]) -> Result<(Statement, &[Lexeme]), Cant<SpecFault>>
     ensures { Gives (λ x. (x.0, x.1.now)) result (one_at lexemes.now) }
@@ -75,7 +101,10 @@ fn one_at(alloc: Global, lexemes: &[Lexeme]) -> Result<(Statement, &[Lexeme]), C
     if starts(lexemes, "select") {
         return select_at(alloc, lexemes);
     }
-    alter_at(alloc, lexemes)
+    if starts(lexemes, "alter") {
+        return alter_at(alloc, lexemes);
+    }
+    control_at(lexemes)
 }
 
 /// The one statement of a block's text.

@@ -7,8 +7,8 @@ unfolding run_text
 returns c =
     let spec = c.args.spec.now in
     let run = c.args.run.now in
-    let journal = rw (c.as_slice.ensures, c.entries.ensures.entries) at c.in_ok-push_journal.ensures.ok in
+    let journal = rw c.entries.ensures.entries at c.in_ok-push_journal.ensures.ok in
     record {
-      ok = appended_three _ _ _ _ (title_text spec run.permutation) (journal_text spec.blocks run.history.entries) (setup_text run.setup)
+      ok = appended_three _ _ _ _ (title_text spec run.permutation) (journal_text spec run.permutation run.setup run.history.entries) (setup_text run.setup)
           c.in_ok-push_title.ensures.ok journal c.in_ok-push_setup.ensures.ok;
     }

@@ -1,9 +1,15 @@
-use Rattle.std.proofs.Common.{rules, arith}
-use Rattle.al_app.proofs.RunLemmas.{closes_begin, closes_go_on}
+use Rattle.std.proofs.Common.{◌∙◌, arith, inr}
+use Rattle.al_app.proofs.CloseLemmas.{closes_begin, closes_go_on}
 use Rattle.al_app.proofs.runs.close_sessions.Goals as goal
 
 pub loop-session-init : goal.loop-session-init
-loop-session-init c = closes_begin _ _ c.requires.rest
+loop-session-init c = closes_begin _ _
+
+pub close_session-requires-clause-idle : goal.close_session-requires-clause-idle
+close_session-requires-clause-idle c = c.loop-session.invariant.hands _ ∙ c.requires.none_busy _
+
+pub close_session-requires-clause-not_closed : goal.close_session-requires-clause-not_closed
+close_session-requires-clause-not_closed c = c.loop-session.invariant.closed_same _ (inr (omega arith)) ∙ c.requires.still_open _ (omega arith) (omega arith)
 
 pub loop-session-preserved : goal.loop-session-preserved
-loop-session-preserved c = closes_go_on _ c.loop-session.engine _ _ _ (omega arith) c.loop-session.invariant c.close_session.ensures.legal (search rules)
+loop-session-preserved c = closes_go_on _ c.loop-session.engine _ _ _ (omega arith) (c.requires.still_open _ (omega arith) (omega arith)) c.loop-session.invariant c.close_session.ensures.legal c.close_session.ensures.closes

@@ -1,5 +1,8 @@
-use Rattle.al_app.proofs.RunLemmas.{control_open}
+use Rattle.std.proofs.Common.{◌+◌, ap}
+use Rattle.al_app.proofs.CloseLemmas.{ends_failed}
 use Rattle.al_app.proofs.runs.finish.Goals as goal
 
-pub close_sessions-requires-in-Done-2-clause-still_open : goal.close_sessions-requires-in-Done-2-clause-still_open
-close_sessions-requires-in-Done-2-clause-still_open c = λ s from lt. control_open c.run_steps.new.engine c.close_sessions-in-Done.new.engine _ s (c.in_ok-run_steps-in-Done.ensures.any_open s) c.close_sessions-in-Done.ensures lt
+pub returns-in-Failed-clause-ran : goal.returns-in-Failed-clause-ran
+returns-in-Failed-clause-ran c =
+    let set_up = rw c.in-Failed.is at c.requires.set_up in
+    rw c.in-Failed.is (ends_failed _ _ c.args.engine.now _ c.in-Failed.block _ (ap (λ n. n + 1) c.len.ensures) set_up c.close_sessions.ensures)

@@ -1,5 +1,5 @@
 use Rattle.std.proofs.Common.{rules}
-use Rattle.al_app.proofs.RunLemmas.{is_run}
+use Rattle.al_app.proofs.CloseLemmas.{is_run}
 use Rattle.al_app.proofs.runs.run_permutation.Goals as goal
 
 pub returns : goal.returns

@@ -1,6 +1,6 @@
-use Rattle.std.proofs.Common.{take}
-use Rattle.al_app.specs.Runs.{StepsRan}
+use Rattle.std.proofs.Common.{◌≡◌}
+use Rattle.al_app.specs.Runs.{StepsSoFar}
 use Rattle.al_app.proofs.runs.run_steps.Given as goal
 
 abbrev pub invariant-loop-step : goal.invariant-loop-step
-invariant-loop-step l = StepsRan l.spec l.initial.engine l.engine (take l.step-index l.steps)
+invariant-loop-step l = record { so_far : StepsSoFar l.spec l.steps l.engine l.step-index; scripts : l.engine.scripts ≡ l.initial.engine.scripts }

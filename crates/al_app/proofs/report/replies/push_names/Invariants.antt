@@ -1,5 +1,5 @@
 use Rattle.std.proofs.Common.{◌≡◌, ◌++◌, string_bytes, take, codes, ℕ, List, flat_map}
-use Rattle.al_app.proofs.report.push_names.Given as goal
+use Rattle.al_app.proofs.report.replies.push_names.Given as goal
 
 -- what stands is the text before the loop, and each name so far behind its bar
 abbrev pub invariant-loop-name : goal.invariant-loop-name

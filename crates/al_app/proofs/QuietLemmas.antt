@@ -1,0 +1,103 @@
+-- Entries that aren't the driver's leave what is due as it was.
+use Rattle.std.proofs.Common.{◌≡◌, ℕ, ◌≤◌, List, [], ◌∷◌, ◌++◌, length, refl, ap, Option, Some, None, true, arith, ◌∙◌, length-append}
+use Rattle.al_history.specs.declared.entry.Entry.{Entry}
+use Rattle.al_history.specs.declared.entry.Entry.TheVariants.{Give, Refuse, Abort, Cancel, End, Close}
+use Rattle.al_history.specs.declared.entry.Cause.TheVariants as causes
+use Rattle.al_history.specs.Past.{Past}
+use Rattle.al_history.specs.Locks.{is_grant}
+use Rattle.al_history.specs.Made.{Extends}
+use Rattle.al_history.specs.Whole.{driver}
+use Rattle.al_engine.specs.Ran.{Ran, aborted_by, AreGrants, IsAborted, IsCancelled}
+use Rattle.al_app.specs.Runs.{IsQuietly}
+
+-- an entry that isn't the driver's
+abbrev pub IsQuiet : Entry → Type 0
+IsQuiet (Give s block) = ⊥
+IsQuiet (Cancel s) = ⊥
+IsQuiet (Close s) = ⊥
+IsQuiet e = Unit {0}
+
+abbrev pub AreQuiet : List Entry → Type 0
+AreQuiet [] = Unit {0}
+AreQuiet (e ∷ entries) = IsQuiet e × AreQuiet entries
+
+pub quietly_not : (past : Past) → IsQuietly past past
+quietly_not past = record { as_due = λ spec steps all. all; gives_same = refl; ended_same = refl; closed_same = λ s. refl }
+
+pub quietly_then : (old mid new : Past) → IsQuietly old mid → IsQuietly mid new → IsQuietly old new
+quietly_then old mid new first then = record {
+  as_due = λ spec steps all. then.as_due spec steps (first.as_due spec steps all);
+  gives_same = then.gives_same ∙ first.gives_same;
+  ended_same = then.ended_same ∙ first.ended_same;
+  closed_same = λ s. then.closed_same s ∙ first.closed_same s;
+}
+
+quietly_one : (e : Entry) (past : Past) → IsQuiet e → IsQuietly past (e ∷ past)
+quietly_one (Give s block) past quiet = absurd quiet
+quietly_one (Cancel s) past quiet = absurd quiet
+quietly_one (Close s) past quiet = absurd quiet
+quietly_one e past quiet = record { as_due = λ spec steps all. all; gives_same = refl; ended_same = refl; closed_same = λ s. refl }
+
+quietly_all : (entries : List Entry) (past : Past) → AreQuiet entries → IsQuietly past (entries ++ past)
+quietly_all [] past quiet = quietly_not past
+quietly_all (e ∷ entries) past quiet = quietly_then _ _ _ (quietly_all entries past quiet.1) (quietly_one e (entries ++ past) quiet.0)
+
+-- ---- what the driver did tells which entries are its own
+
+driver_grows : (e : Entry) (past : Past) → length (driver past) ≤ length (driver (e ∷ past))
+driver_grows (Give s block) past = omega (arith, length-append (driver past) (Give s block ∷ []))
+driver_grows (Cancel s) past = omega (arith, length-append (driver past) (Cancel s ∷ []))
+driver_grows (Close s) past = omega (arith, length-append (driver past) (Close s ∷ []))
+driver_grows e past = omega arith
+
+driver_grows_all : (entries : List Entry) (past : Past) → length (driver past) ≤ length (driver (entries ++ past))
+driver_grows_all [] past = omega arith
+driver_grows_all (e ∷ entries) past = omega (arith, driver_grows_all entries past, driver_grows e (entries ++ past))
+
+quiet_one : (e : Entry) (past : Past) → length (driver (e ∷ past)) ≤ length (driver past) → IsQuiet e
+quiet_one (Give s block) past le = absurd (omega (arith, length-append (driver past) (Give s block ∷ [])))
+quiet_one (Cancel s) past le = absurd (omega (arith, length-append (driver past) (Cancel s ∷ [])))
+quiet_one (Close s) past le = absurd (omega (arith, length-append (driver past) (Close s ∷ [])))
+quiet_one e past le = tt
+
+quiet_all : (entries : List Entry) (past : Past) → length (driver (entries ++ past)) ≤ length (driver past) → AreQuiet entries
+quiet_all [] past le = tt
+quiet_all (e ∷ entries) past le =
+    let below = driver_grows e (entries ++ past) in
+    let above = driver_grows_all entries past in
+    (quiet_one e (entries ++ past) (omega arith), quiet_all entries past (omega arith))
+
+-- entries of sessions and grants, among which the driver has none
+pub quietly_extended : (s : ℕ) (old new : Past) → Extends s old new → driver new ≡ driver old → IsQuietly old new
+quietly_extended s old new more same =
+    let lengths : length (driver (more.entries ++ old)) ≡ length (driver old) = ap length (rw more.more at same) in
+    rw more.more (quietly_all more.entries old (quiet_all more.entries old (omega arith)))
+
+-- ---- aborts and grants
+
+quiet_grant : (e : Entry) (past : Past) → is_grant past e ≡ true → IsQuiet e
+quiet_grant (Give s block) past grant = cc
+quiet_grant (Cancel s) past grant = cc
+quiet_grant (Close s) past grant = cc
+quiet_grant e past grant = tt
+
+quiet_grants : (entries : List Entry) (past : Past) → AreGrants entries past → AreQuiet entries
+quiet_grants [] past grants = tt
+quiet_grants (e ∷ entries) past grants = (quiet_grant e (entries ++ past) grants.0, quiet_grants entries past grants.1)
+
+quietly_aborted_by : (x : Option ℕ) (past : Past) → IsQuietly past (aborted_by x past)
+quietly_aborted_by None past = quietly_not past
+quietly_aborted_by (Some x) past = quietly_one (Abort x) past tt
+
+pub quietly_aborted : (x : Option ℕ) (old new : Past) → IsAborted x old new → IsQuietly old new
+quietly_aborted x old new did = rw did.is (quietly_then _ _ _ (quietly_aborted_by x old) (quietly_all did.grants _ (quiet_grants did.grants _ did.are_grants)))
+
+-- ---- a cancel
+
+-- all after the Cancel is quiet
+pub quietly_after_cancel : (old new : Ran) (s : ℕ) → IsCancelled old new s → IsQuietly (Cancel s ∷ old.past) new.past
+quietly_after_cancel old new s did =
+    let refused = quietly_one (Refuse s (causes.Cancelled (length old.past))) (Cancel s ∷ old.past) tt in
+    let aborted = quietly_aborted _ _ _ did.is_aborted in
+    let over = quietly_one (End s) did.aborted tt in
+    rw did.is (quietly_then _ _ _ refused (quietly_then _ _ _ aborted over))
