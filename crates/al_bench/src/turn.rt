@@ -1,8 +1,7 @@
-//! Turns of an engine with one session.
+//! Steps of an engine with one session.
 ghost use Rattle.std.specs.Prelude.{◌≡◌, ◌∷◌, [], true, false, ◌<◌, Some, IfOk, OnOk, slice_get, option_map};
 ghost use Rattle.al_engine.specs.Ran.{AreSingle, IsSingle};
 ghost use Rattle.al_history.specs.Hand.{closed};
-ghost use Rattle.al_history.specs.Rules.{has_place};
 ghost use Rattle.al_history.specs.declared.statement.ScriptBlock.{ScriptBlock};
 
 use al_engine::{Engine, Told};
@@ -10,7 +9,10 @@ use al_history::{Column, ScriptBlock, Scripts, Statement};
 use al_values::{ListOf, Name, NameList, NoMemory, Row, Value};
 use std::alloc::Global;
 
-/// The statement of each turn. The table has one column, and no row but those that are inserted.
+// More turns than a step of one statement takes.
+const MOST_TURNS: u32 = 8;
+
+/// The statement of each step. The table has one column, and no row but those that are inserted.
 #[derive(Clone, Copy)]
 pub enum Kind {
     /// INSERT of one row.
@@ -21,7 +23,7 @@ pub enum Kind {
     Refused,
 }
 
-/// Makes as many journals of so many turns, and gives the count of their entries.
+/// Makes as many journals of so many steps, and gives the count of their entries.
 pub fn journals(alloc: Global, kind: Kind, turns: u32, times: u32) -> Result<u64, NoMemory> {
     let mut entries: u64 = 0;
     for _ in 0..times {
@@ -48,7 +50,7 @@ fn go_on(alloc: Global, engine: &mut Engine, turns: u32) -> Result<(), NoMemory>
     Ok(())
 }
 
-/// Gives a block to the session, and goes on with it once, which runs all of it.
+/// Gives a block to the session, and goes on with it to its end.
 fn run_block(alloc: Global, engine: &mut Engine, block: u32) -> Result<(), NoMemory>
     requires known { 0 < engine.old.scripts.sessions }
     requires of_session { option_map (λ b. b.session) (slice_get engine.old.scripts.blocks block) ≡ Some 0 }
@@ -59,9 +61,25 @@ fn run_block(alloc: Global, engine: &mut Engine, block: u32) -> Result<(), NoMem
     let Ok(()) = engine.give(alloc, 0, block) else {
         return Err(NoMemory);
     };
-    match engine.turn(alloc, 0)? {
-        Told::Went { .. } => Ok(()),
-        Told::Idle => Err(NoMemory),
+    for _turn in 0..MOST_TURNS {
+        if !take_turn(alloc, engine)? {
+            break;
+        }
+    }
+    Ok(())
+}
+
+/// Goes on with a session that can, and tells whether there was one.
+fn take_turn(alloc: Global, engine: &mut Engine) -> Result<bool, NoMemory>
+    ensures closed_same { OnOk result (closed engine.new.past 0 ≡ closed engine.old.past 0) }
+    ensures scripts { OnOk result (engine.new.scripts ≡ engine.old.scripts) }
+{
+    let Some(session) = engine.ready() else {
+        return Ok(false);
+    };
+    match engine.turn(alloc, session)? {
+        Told::Went { .. } => Ok(true),
+        Told::Waits | Told::Idle => Ok(false),
     }
 }
 
@@ -85,9 +103,7 @@ fn scripts(alloc: Global, kind: Kind) -> Result<Scripts, NoMemory>
     })
 }
 
-fn statement_of(alloc: Global, kind: Kind) -> Result<Statement, NoMemory>
-    ensures plain { IfOk result (λ s. has_place s ≡ true) }
-{
+fn statement_of(alloc: Global, kind: Kind) -> Result<Statement, NoMemory> {
     let table = Name::new(alloc, "t")?;
     match kind {
         Kind::Insert => {
@@ -107,7 +123,6 @@ fn statement_of(alloc: Global, kind: Kind) -> Result<Statement, NoMemory>
 
 /// A block of the session with one statement.
 fn block_of(alloc: Global, statement: Statement) -> Result<ScriptBlock, NoMemory>
-    requires plain { has_place statement ≡ true }
     ensures session { IfOk result (λ b. b.session ≡ 0) }
     ensures single { IfOk result (IsSingle 1) }
 {

@@ -330,7 +330,7 @@ fn reports_a_run(rt: HostRuntime) -> Result<(), Fail> {
         Status::Done,
         ADDS_REPORT,
     )?;
-    assert_eq!(rt; only_run(&answer), Some((1, Setup::Done, 30)));
+    assert_eq!(rt; only_run(&answer), Some((1, Setup::Done, 33)));
     for (file, report) in DONE {
         let answer = answer_to(
             &rt,
@@ -477,6 +477,6 @@ fn answers_with_threads_at_hand(rt: HostRuntime) -> Result<(), Fail> {
     let answer = answer(&rt, alloc, &words, &mut source, &mut sink, &OpenGate);
     assert_eq!(rt; answer.status, Status::Done);
     assert_eq!(rt; sink.held(), ADDS_REPORT.as_bytes());
-    assert_eq!(rt; only_run(&answer), Some((1, Setup::Done, 30)));
+    assert_eq!(rt; only_run(&answer), Some((1, Setup::Done, 33)));
     Ok(())
 }

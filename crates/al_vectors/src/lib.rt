@@ -7,3 +7,5 @@ mod answering;
 mod printing;
 #[cfg(test)]
 mod reading;
+#[cfg(test)]
+mod several;

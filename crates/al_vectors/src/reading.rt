@@ -49,10 +49,6 @@ fn files(rt: HostRuntime) {
             false,
         ),
         (
-            "session s step a {SELECT * FROM t} session r step b {SELECT * FROM t} permutation a b",
-            false,
-        ),
-        (
             "session s teardown {SELECT * FROM t} step a {SELECT * FROM t} permutation a",
             false,
         ),
@@ -73,6 +69,126 @@ fn files(rt: HostRuntime) {
     assert_eq!(rt; is_first(rt.alloc(), broken), Some(false));
     let commented = b"session s step a {SELECT * FROM t} permutation a #\xc3";
     assert_eq!(rt; is_first(rt.alloc(), commented), Some(false));
+}
+
+// Steps of all sessions stand in the one permutation, in any order; each session has a step.
+#[test]
+fn several_sessions(rt: HostRuntime) {
+    let table = [
+        (
+            "session s step a {BEGIN} session r step b {COMMIT} permutation a b",
+            true,
+        ),
+        (
+            "session s step a {BEGIN} session r step b {COMMIT} permutation b a",
+            true,
+        ),
+        (
+            "session s step a {BEGIN} session r step b {COMMIT} permutation b",
+            true,
+        ),
+        (
+            "session s step a {BEGIN} session s step b {COMMIT} permutation a b",
+            true,
+        ),
+        (
+            "session a step a {BEGIN} session b step b {COMMIT} permutation a b",
+            true,
+        ),
+        (
+            "session s step a {BEGIN} session r step a {COMMIT} permutation a",
+            false,
+        ),
+        (
+            "session s step a {BEGIN} step b {COMMIT} session r step c {BEGIN} step b {COMMIT} permutation a",
+            false,
+        ),
+        ("session s session r step b {COMMIT} permutation b", false),
+        ("session s step a {BEGIN} session r permutation a", false),
+        (
+            "step a {BEGIN} session r step b {COMMIT} permutation b",
+            false,
+        ),
+        (
+            "session s step a {BEGIN} session step b {COMMIT} permutation a",
+            false,
+        ),
+        (
+            "session s step a {BEGIN} session r {COMMIT} permutation a",
+            false,
+        ),
+        (
+            "session s step a {BEGIN} setup {BEGIN} session r step b {COMMIT} permutation a",
+            false,
+        ),
+        (
+            "session s step a {BEGIN} permutation a session r step b {COMMIT}",
+            false,
+        ),
+    ];
+    for (text, wanted) in table {
+        assert_eq!(rt;
+            is_first(rt.alloc(), text.as_bytes()),
+            Some(wanted),
+            "{text}"
+        );
+    }
+}
+
+#[test]
+fn most_sessions(rt: HostRuntime) -> Result<(), Fail> {
+    let mut text = Vec::new(rt.alloc());
+    for number in 0u32..62 {
+        let session = format!(in rt.alloc(); "session s{number} step a{number} {{BEGIN}} ")?;
+        text.extend_from_slice(session.as_bytes())?;
+    }
+    let len = text.len();
+    text.extend_from_slice(b"permutation a61 a0")?;
+    assert_eq!(rt; is_first(rt.alloc(), text.as_slice()), Some(true));
+    text.truncate(len);
+    text.extend_from_slice(b"session s62 step a62 {BEGIN} permutation a61 a0")?;
+    assert_eq!(rt; is_first(rt.alloc(), text.as_slice()), Some(false));
+    Ok(())
+}
+
+// Whether the text is a block's statement of the form; None where memory ran out.
+fn is_statement(alloc: Global, text: &str) -> Result<Option<bool>, AllocError> {
+    let file = format!(in alloc; "session s step a {{{text}}} permutation a")?;
+    Ok(is_first(alloc, file.as_bytes()))
+}
+
+// BEGIN, COMMIT and ROLLBACK stand alone, and are good names.
+#[test]
+fn blocks_of_statements(rt: HostRuntime) -> Result<(), Fail> {
+    let table = [
+        ("begin", true),
+        ("Commit", true),
+        ("ROLLBACK", true),
+        ("BEGIN;", true),
+        (" cOMMIT\n;\n", true),
+        ("BEGIN;;", false),
+        ("BEGIN; COMMIT", false),
+        ("BEGIN COMMIT", false),
+        ("BEGIN WORK", false),
+        ("BEGIN TRANSACTION", false),
+        ("BEGIN ISOLATION LEVEL READ COMMITTED", false),
+        ("COMMIT WORK", false),
+        ("ROLLBACK TO a", false),
+        ("START TRANSACTION", false),
+        ("END", false),
+        ("ABORT", false),
+        ("begins", false),
+        ("SELECT * FROM begin", true),
+        (
+            "CREATE TABLE commit (rollback integer, begin integer)",
+            true,
+        ),
+    ];
+    for (text, wanted) in table {
+        let is = is_statement(rt.alloc(), text)?;
+        assert_eq!(rt; is, Some(wanted), "{text}");
+    }
+    Ok(())
 }
 
 #[test]
@@ -250,6 +366,47 @@ fn blocks(rt: HostRuntime) -> Result<(), Fail> {
         let text = described(rt.alloc(), block, script)?;
         assert_eq!(rt; text.as_str(), wanted);
     }
+    Ok(())
+}
+
+const TWO: &str = "setup { CREATE TABLE t (a integer) }
+session s1
+step b { BEGIN }
+step e { Rollback; }
+session s2
+step r { SELECT * FROM t }
+step c { commit }
+permutation r b c e
+";
+
+// A step is of the session under which it stands; steps count on over the sessions.
+#[test]
+fn blocks_of_sessions(rt: HostRuntime) -> Result<(), Fail> {
+    let (spec, scripts) = read(rt.alloc(), TWO)?;
+    assert_eq!(rt; spec.blocks.len(), 5);
+    assert_eq!(rt; scripts.blocks.len(), 5);
+    for (number, wanted) in [
+        "Setup 0 [] [CREATE TABLE t (a integer)] 0 1 create t a",
+        "Step 1 [b] [BEGIN] 1 1 Begin",
+        "Step 1 [e] [Rollback;] 1 1 Rollback",
+        "Step 2 [r] [SELECT * FROM t] 2 1 select t",
+        "Step 2 [c] [commit] 2 1 Commit",
+    ]
+    .into_iter()
+    .enumerate()
+    {
+        let block = spec.blocks.get(number).ok_or("a block")?;
+        let script = scripts.blocks.get(number).ok_or("a script")?;
+        let text = described(rt.alloc(), block, script)?;
+        assert_eq!(rt; text.as_str(), wanted);
+    }
+    assert_eq!(rt; scripts.sessions, 3);
+    assert_eq!(rt; spec.sessions.len(), 2);
+    assert_eq!(rt; spec.sessions.get(0).ok_or("one")?.as_str(), "s1");
+    assert_eq!(rt; spec.sessions.get(1).ok_or("two")?.as_str(), "s2");
+    assert_eq!(rt; spec.permutations.len(), 1);
+    let numbers = spec.permutations.get(0).ok_or("one")?;
+    assert_eq!(rt; numbers.as_slice(), [3, 1, 4, 2].as_slice());
     Ok(())
 }
 
