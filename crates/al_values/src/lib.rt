@@ -13,6 +13,7 @@ mod listed;
 mod order;
 mod reading;
 mod scalar;
+mod steps;
 #[cfg(test)]
 mod tests;
 mod text;
@@ -27,6 +28,7 @@ pub use listed::ListOf;
 pub use order::compare;
 pub use reading::read;
 pub use scalar::{Value, print};
+pub use steps::Steps;
 pub use text::Txt;
 
 /// A name of a table, a column, a session or a step.
