@@ -9,7 +9,7 @@ use Rattle.al_modes.specs.Conflicts.{strictness, conflict}
 use Rattle.al_modes.proofs.Table.{symmetric}
 use Rattle.al_history.specs.declared.entry.Want.TheVariants as wants
 use Rattle.al_history.specs.declared.entry.Entry.TheVariants.{Start, Wait, Lock, Commit, Abort}
-use Rattle.al_history.specs.declared.statement.Scripts.{Scripts}
+use Rattle.al_history.specs.declared.statement.Terms.{Terms}
 use Rattle.al_history.specs.Past.{Past}
 use Rattle.al_history.specs.Fate.{is_that}
 use Rattle.al_history.specs.Hand.{xact_of, session_of}
@@ -134,14 +134,14 @@ is_that_so None x same = absurd cc
 is_that_so (Some y) x same = ap (λ (z : ℕ). Some z) (eqb-true y x same)
 
 -- what is left after a transaction's end
-open_left : (scripts : Scripts) (past : Past) (x : ℕ) (claims : List Claim) → Legal scripts past → AreOpen past claims → (c : Claim) → is_held (without (session_of past x) claims) c ≡ true → IsSome (cond (is_that (xact_of past c.session) x) None (xact_of past c.session))
-open_left scripts past x claims legal open_so c there = by_test (is_that (xact_of past c.session) x) refl where
+open_left : (terms : Terms) (past : Past) (x : ℕ) (claims : List Claim) → Legal terms past → AreOpen past claims → (c : Claim) → is_held (without (session_of past x) claims) c ≡ true → IsSome (cond (is_that (xact_of past c.session) x) None (xact_of past c.session))
+open_left terms past x claims legal open_so c there = by_test (is_that (xact_of past c.session) x) refl where
   left : (is_held claims c ≡ true) × ((c.session == session_of past x) ≡ false)
   left = held_left (session_of past x) claims c there
 
   by_test : (b : Bool) → is_that (xact_of past c.session) x ≡ b → IsSome (cond b None (xact_of past c.session))
   by_test true same =
-      let its : session_of past x ≡ c.session = (xact_is scripts past c.session x legal (is_that_so (xact_of past c.session) x same)).own in
+      let its : session_of past x ≡ c.session = (xact_is terms past c.session x legal (is_that_so (xact_of past c.session) x same)).own in
       let yes : (c.session == session_of past x) ≡ true = eq-eqb _ _ (sym its) in
       let no : (c.session == session_of past x) ≡ false = left.1 in
       absurd cc
@@ -156,24 +156,24 @@ pub some_is : {o : Option ℕ} {x : ℕ} → o ≡ Some x → IsSome o
 some_is e = rw e refl
 
 -- who holds a lock has an open transaction
-pub held_open : (scripts : Scripts) (past : Past) → Legal scripts past → (c : Claim) → is_held (held past) c ≡ true → IsSome (xact_of past c.session)
-held_open scripts [] legal c there = absurd cc
-held_open scripts (Start r level ∷ past) legal c there = open_start (r == c.session) _ _ (held_open scripts past legal.1 c there)
-held_open scripts (Lock x table mode ∷ past) legal c there = open_push past (held past) (claim past x table mode) (held_open scripts past legal.1) (some_is legal.0.rule.open_xact) c there
-held_open scripts (Commit x ∷ past) legal c there = open_left scripts past x (held past) legal.1 (held_open scripts past legal.1) c there
-held_open scripts (Abort x ∷ past) legal c there = open_left scripts past x (held past) legal.1 (held_open scripts past legal.1) c there
-held_open scripts (e ∷ past) legal c there = held_open scripts past legal.1 c there
+pub held_open : (terms : Terms) (past : Past) → Legal terms past → (c : Claim) → is_held (held past) c ≡ true → IsSome (xact_of past c.session)
+held_open terms [] legal c there = absurd cc
+held_open terms (Start r level ∷ past) legal c there = open_start (r == c.session) _ _ (held_open terms past legal.1 c there)
+held_open terms (Lock x table mode ∷ past) legal c there = open_push past (held past) (claim past x table mode) (held_open terms past legal.1) (some_is legal.0.rule.open_xact) c there
+held_open terms (Commit x ∷ past) legal c there = open_left terms past x (held past) legal.1 (held_open terms past legal.1) c there
+held_open terms (Abort x ∷ past) legal c there = open_left terms past x (held past) legal.1 (held_open terms past legal.1) c there
+held_open terms (e ∷ past) legal c there = held_open terms past legal.1 c there
 
 -- who waits for a lock has an open transaction
-pub waiting_open : (scripts : Scripts) (past : Past) → Legal scripts past → (c : Claim) → is_held (waiting past) c ≡ true → IsSome (xact_of past c.session)
-waiting_open scripts [] legal c there = absurd cc
-waiting_open scripts (Start r level ∷ past) legal c there = open_start (r == c.session) _ _ (waiting_open scripts past legal.1 c there)
-waiting_open scripts (Wait x (wants.Table table mode) ∷ past) legal c there = open_push past (waiting past) (claim past x table mode) (waiting_open scripts past legal.1) (some_is legal.0.rule.open_xact) c there
-waiting_open scripts (Wait x (wants.Ends y) ∷ past) legal c there = waiting_open scripts past legal.1 c there
-waiting_open scripts (Lock x table mode ∷ past) legal c there = waiting_open scripts past legal.1 c (held_left (session_of past x) (waiting past) c there).0
-waiting_open scripts (Commit x ∷ past) legal c there = open_left scripts past x (waiting past) legal.1 (waiting_open scripts past legal.1) c there
-waiting_open scripts (Abort x ∷ past) legal c there = open_left scripts past x (waiting past) legal.1 (waiting_open scripts past legal.1) c there
-waiting_open scripts (e ∷ past) legal c there = waiting_open scripts past legal.1 c there
+pub waiting_open : (terms : Terms) (past : Past) → Legal terms past → (c : Claim) → is_held (waiting past) c ≡ true → IsSome (xact_of past c.session)
+waiting_open terms [] legal c there = absurd cc
+waiting_open terms (Start r level ∷ past) legal c there = open_start (r == c.session) _ _ (waiting_open terms past legal.1 c there)
+waiting_open terms (Wait x (wants.Table table mode) ∷ past) legal c there = open_push past (waiting past) (claim past x table mode) (waiting_open terms past legal.1) (some_is legal.0.rule.open_xact) c there
+waiting_open terms (Wait x (wants.Ends y) ∷ past) legal c there = waiting_open terms past legal.1 c there
+waiting_open terms (Lock x table mode ∷ past) legal c there = waiting_open terms past legal.1 c (held_left (session_of past x) (waiting past) c there).0
+waiting_open terms (Commit x ∷ past) legal c there = open_left terms past x (waiting past) legal.1 (waiting_open terms past legal.1) c there
+waiting_open terms (Abort x ∷ past) legal c there = open_left terms past x (waiting past) legal.1 (waiting_open terms past legal.1) c there
+waiting_open terms (e ∷ past) legal c there = waiting_open terms past legal.1 c there
 
 -- ---- locks of two sessions
 
@@ -204,19 +204,19 @@ pub none_in_way : (past : Past) (request : Claim) → grantable past request ≡
 none_in_way past request can = (or_parts (list_any (in_way request) (held past)) _ (not-true _ can)).0
 
 -- locks of one table that two sessions hold don't conflict
-pub held_apart : (scripts : Scripts) (past : Past) → Legal scripts past → (c d : Claim) → is_held (held past) c ≡ true → is_held (held past) d ≡ true → (c.session ≡ d.session → ⊥) → c.table ≡ d.table → conflict c.mode d.mode ≡ false
-held_apart scripts [] legal c d there = absurd cc
-held_apart scripts (Lock x table mode ∷ past) legal c d there = apart_push (held past) (claim past x table mode) (held_apart scripts past legal.1) (none_in_way past (claim past x table mode) legal.0.rule.can_be) c d there
-held_apart scripts (Commit x ∷ past) legal c d there = apart_left (session_of past x) (held past) (held_apart scripts past legal.1) c d there
-held_apart scripts (Abort x ∷ past) legal c d there = apart_left (session_of past x) (held past) (held_apart scripts past legal.1) c d there
-held_apart scripts (e ∷ past) legal c d there = held_apart scripts past legal.1 c d there
+pub held_apart : (terms : Terms) (past : Past) → Legal terms past → (c d : Claim) → is_held (held past) c ≡ true → is_held (held past) d ≡ true → (c.session ≡ d.session → ⊥) → c.table ≡ d.table → conflict c.mode d.mode ≡ false
+held_apart terms [] legal c d there = absurd cc
+held_apart terms (Lock x table mode ∷ past) legal c d there = apart_push (held past) (claim past x table mode) (held_apart terms past legal.1) (none_in_way past (claim past x table mode) legal.0.rule.can_be) c d there
+held_apart terms (Commit x ∷ past) legal c d there = apart_left (session_of past x) (held past) (held_apart terms past legal.1) c d there
+held_apart terms (Abort x ∷ past) legal c d there = apart_left (session_of past x) (held past) (held_apart terms past legal.1) c d there
+held_apart terms (e ∷ past) legal c d there = held_apart terms past legal.1 c d there
 
 -- where a session has a table alone, all locks of the table are its own
-pub alone_held : (scripts : Scripts) (past : Past) → Legal scripts past → (c d : Claim) → is_held (held past) c ≡ true → is_held (held past) d ≡ true → c.mode ≡ AccessExclusive → c.table ≡ d.table → c.session ≡ d.session
-alone_held scripts past legal c d there there' mode same = by_test (c.session == d.session) refl where
+pub alone_held : (terms : Terms) (past : Past) → Legal terms past → (c d : Claim) → is_held (held past) c ≡ true → is_held (held past) d ≡ true → c.mode ≡ AccessExclusive → c.table ≡ d.table → c.session ≡ d.session
+alone_held terms past legal c d there there' mode same = by_test (c.session == d.session) refl where
   by_test : (b : Bool) → (c.session == d.session) ≡ b → c.session ≡ d.session
   by_test true own = eqb-true c.session d.session own
   by_test false other =
-      let none : conflict c.mode d.mode ≡ false = held_apart scripts past legal c d there there' (λ e. let yes : (c.session == d.session) ≡ true = eq-eqb c.session d.session e in absurd cc) same in
+      let none : conflict c.mode d.mode ≡ false = held_apart terms past legal c d there there' (λ e. let yes : (c.session == d.session) ≡ true = eq-eqb c.session d.session e in absurd cc) same in
       let all : conflict c.mode d.mode ≡ true = rw mode (conflicts_with_all d.mode) in
       absurd cc

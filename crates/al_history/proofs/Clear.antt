@@ -5,20 +5,24 @@ use Rattle.std.proofs.lemmas.Bool.{ltb-false}
 use Rattle.al_history.specs.declared.entry.Cause.{Cause}
 use Rattle.al_history.specs.declared.entry.Cause.TheVariants as causes
 use Rattle.al_history.specs.declared.statement.Statement.{Statement}
-use Rattle.al_history.specs.declared.statement.Scripts.{Scripts}
+use Rattle.al_history.specs.declared.statement.Terms.{Terms}
 use Rattle.al_history.specs.Past.{Past}
 use Rattle.al_history.specs.Database.{Table, Database, named}
 use Rattle.al_history.specs.Hand.{in_hand, xact_of, look_of, acts_of, block_state}
 use Rattle.al_history.specs.Cause.{used_name, name_cause, twice_column, create_cause, count_cause, cause_at, cancel_cause, first_of, block_cause, judged_cause, cause_of}
 
-rest_clear : (first cause : Option Cause) → first_of first cause ≡ None → cause ≡ None
+pub rest_clear : (first cause : Option Cause) → first_of first cause ≡ None → cause ≡ None
 rest_clear None cause none = none
 rest_clear (Some c) cause none = absurd cc
 
+pub first_clear : (first cause : Option Cause) → first_of first cause ≡ None → first ≡ None
+first_clear None cause none = refl
+first_clear (Some c) cause none = absurd cc
+
 -- no cause of its place is true of it
-pub judged_clear : (scripts : Scripts) (past : Past) (s x : ℕ) (statement : Statement) → cause_of scripts past s ≡ None → in_hand scripts past s ≡ Some statement → xact_of past s ≡ Some x → cause_at scripts past x statement (acts_of past s) (look_of past s) ≡ None
-judged_clear scripts past s x statement none is own =
-    let judged : judged_cause scripts past s ≡ None = rest_clear (cancel_cause past s) (judged_cause scripts past s) none in
+pub judged_clear : (terms : Terms) (past : Past) (s x : ℕ) (statement : Statement) → cause_of terms past s ≡ None → in_hand terms past s ≡ Some statement → xact_of past s ≡ Some x → cause_at terms past x statement (acts_of past s) (look_of past s) ≡ None
+judged_clear terms past s x statement none is own =
+    let judged : judged_cause terms past s ≡ None = rest_clear (cancel_cause past s) (judged_cause terms past s) none in
     rest_clear (block_cause (block_state past s) statement) _ (rw (is, own) at judged)
 
 -- the table that it uses is there

@@ -12,16 +12,16 @@ use Rattle.al_history.specs.declared.statement.Column.{Column}
 use Rattle.al_history.specs.declared.statement.ScriptBlock.{ScriptBlock}
 use Rattle.al_history.specs.declared.statement.Statement.{Statement}
 use Rattle.al_history.specs.declared.statement.Statement.TheVariants as statements
-use Rattle.al_history.specs.declared.statement.Scripts.{Scripts}
+use Rattle.al_history.specs.declared.statement.Terms.{Terms}
 use Rattle.al_history.specs.Past.{Past}
 use Rattle.al_history.specs.Hand.{NoBlock, hand, dones, refused, in_hand, statement_of, xact_of, implicit_of, if_no_block, session_of, look_of, acts_of, block_state}
 use Rattle.al_history.specs.Locks.{Claim, claim, held, grantable, is_settled, is_waiting, is_grant}
-use Rattle.al_history.specs.Need.{need, first_lacking, lacking, name_taker, makers, first_open}
+use Rattle.al_history.specs.Need.{has_place, need, first_lacking, lacking, name_taker, makers, first_open}
 use Rattle.al_history.specs.Waits.{wanted_by, can_go_on}
 use Rattle.al_history.specs.View.{latest}
 use Rattle.al_history.specs.Cause.{first_of, block_cause, cause_at, cancel_cause, cause_of}
 use Rattle.al_history.specs.Tail.{owed, Follows}
-use Rattle.al_history.specs.Rules.{starts, has_place, looked_at, Creates, Inserts, Selects, Alters, Answers, Rule, ActRule}
+use Rattle.al_history.specs.Rules.{starts, looked_at, Creates, Inserts, Selects, Alters, Answers, Rule, ActRule}
 use Rattle.al_history.specs.Legal.{Legal, MayCome, Unless}
 use Rattle.al_history.proofs.Doings.{Doing, doing, IsXact}
 use Rattle.al_history.proofs.Sole.{rule_alone}
@@ -31,38 +31,38 @@ unless true P p = tt
 unless false P p = p
 
 -- where nothing is owed, no step has just been cancelled
-pub uncut : (scripts : Scripts) (past : Past) (s : ℕ) → owed scripts past ≡ None → cancel_cause past s ≡ None
-uncut scripts [] s none = refl
-uncut scripts (Cancel r ∷ past) s none = absurd cc
-uncut scripts (e ∷ past) s none = refl
+pub uncut : (terms : Terms) (past : Past) (s : ℕ) → owed terms past ≡ None → cancel_cause past s ≡ None
+uncut terms [] s none = refl
+uncut terms (Cancel r ∷ past) s none = absurd cc
+uncut terms (e ∷ past) s none = refl
 
 -- the cause that is judged, by what the session is doing
-abbrev pub cause_in : Scripts → Past → Doing → Option Cause
-cause_in scripts past d = option_and_then (λ statement. first_of (block_cause d.block statement) (option_and_then (λ x. cause_at scripts past x statement d.acts d.look) d.xact)) (statement_of scripts d.hand d.dones)
+abbrev pub cause_in : Terms → Past → Doing → Option Cause
+cause_in terms past d = option_and_then (λ statement. first_of (block_cause d.block statement) (option_and_then (λ x. cause_at terms past x statement d.acts d.look) d.xact)) (statement_of terms d.hand d.dones)
 
 -- what is lacking, by what the session is doing
-abbrev pub lacking_in : Scripts → Past → ℕ → ℕ → Doing → Option Claim
-lacking_in scripts past s x d = option_and_then (λ statement. first_lacking (held past) (need s statement (latest scripts past x))) (statement_of scripts d.hand d.dones)
+abbrev pub lacking_in : Terms → Past → ℕ → ℕ → Doing → Option Claim
+lacking_in terms past s x d = option_and_then (λ statement. first_lacking (held past) (need s statement (latest terms past x))) (statement_of terms d.hand d.dones)
 
-module _ (scripts : Scripts) (past : Past) (legal : Legal scripts past) (settled : is_settled past ≡ true) where
+module _ (terms : Terms) (past : Past) (legal : Legal terms past) (settled : is_settled past ≡ true) where
   -- an entry may come that keeps its rule and is what is owed
-  pub comes : (e : Entry) → Rule scripts past e → Follows (owed scripts past) e → MayCome scripts past e
+  pub comes : (e : Entry) → Rule terms past e → Follows (owed terms past) e → MayCome terms past e
   comes e rule follows = record {
     rule = rule;
     settled = unless (is_grant past e) _ settled;
     follows = unless (is_grant past e) _ follows;
-    alone = rule_alone scripts past e legal rule (unless (is_grant past e) _ follows);
+    alone = rule_alone terms past e legal rule (unless (is_grant past e) _ follows);
   }
 
-module _ (scripts : Scripts) (past : Past) (s : ℕ) (d : Doing) (legal : Legal scripts past) (is : doing past s ≡ d) (settled : is_settled past ≡ true) where
-  pub in_hand_is : in_hand scripts past s ≡ statement_of scripts d.hand d.dones
-  in_hand_is = ap (λ (e : Doing). statement_of scripts e.hand e.dones) is
+module _ (terms : Terms) (past : Past) (s : ℕ) (d : Doing) (legal : Legal terms past) (is : doing past s ≡ d) (settled : is_settled past ≡ true) where
+  pub in_hand_is : in_hand terms past s ≡ statement_of terms d.hand d.dones
+  in_hand_is = ap (λ (e : Doing). statement_of terms e.hand e.dones) is
 
-  pub cause_is : cause_of scripts past s ≡ first_of (cancel_cause past s) (cause_in scripts past d)
-  cause_is = ap (λ (e : Doing). first_of (cancel_cause past s) (cause_in scripts past e)) is
+  pub cause_is : cause_of terms past s ≡ first_of (cancel_cause past s) (cause_in terms past d)
+  cause_is = ap (λ (e : Doing). first_of (cancel_cause past s) (cause_in terms past e)) is
 
-  pub cause_free : owed scripts past ≡ None → cause_of scripts past s ≡ cause_in scripts past d
-  cause_free none = cause_is ∙ rw (uncut scripts past s none) refl
+  pub cause_free : owed terms past ≡ None → cause_of terms past s ≡ cause_in terms past d
+  cause_free none = cause_is ∙ rw (uncut terms past s none) refl
 
   pub goes : (block : ℕ) → d.hand ≡ Some block → d.wants ≡ None → can_go_on past s ≡ true
   goes block busy free =
@@ -72,82 +72,82 @@ module _ (scripts : Scripts) (past : Past) (s : ℕ) (d : Doing) (legal : Legal 
 
   -- ---- the session's own
 
-  pub comes_give : (block : ℕ) → s < scripts.sessions → option_map (λ (b : ScriptBlock). b.session) (slice_get scripts.blocks block) ≡ Some s → d.closed ≡ false → d.hand ≡ None → owed scripts past ≡ None → MayCome scripts past (Give s block)
-  comes_give block known of_session open_so idle none = comes scripts past legal settled (Give s block) (record { known = known; of_session = of_session; not_closed = ap (λ (e : Doing). e.closed) is ∙ open_so; idle = ap (λ (e : Doing). e.hand) is ∙ idle }) (rw none tt)
+  pub comes_give : (block : ℕ) → s < terms.scripts.sessions → option_map (λ (b : ScriptBlock). b.session) (slice_get terms.scripts.blocks block) ≡ Some s → d.closed ≡ false → d.hand ≡ None → owed terms past ≡ None → MayCome terms past (Give s block)
+  comes_give block known of_session open_so idle none = comes terms past legal settled (Give s block) (record { known = known; of_session = of_session; not_closed = ap (λ (e : Doing). e.closed) is ∙ open_so; idle = ap (λ (e : Doing). e.hand) is ∙ idle }) (rw none tt)
 
-  pub comes_start : (statement : Statement) → statement_of scripts d.hand d.dones ≡ Some statement → starts d.block statement ≡ true → d.xact ≡ None → owed scripts past ≡ None → MayCome scripts past (Start s levels.ReadCommitted)
+  pub comes_start : (statement : Statement) → statement_of terms d.hand d.dones ≡ Some statement → starts d.block statement ≡ true → d.xact ≡ None → owed terms past ≡ None → MayCome terms past (Start s levels.ReadCommitted)
   comes_start statement in_hand_so begins none_open none =
       let block_so : block_state past s ≡ d.block = ap (λ (e : Doing). e.block) is in
-      comes scripts past legal settled (Start s levels.ReadCommitted) (record { statement = rw (in_hand_is, in_hand_so, block_so, begins) refl; none_open = ap (λ (e : Doing). e.xact) is ∙ none_open; read_committed = refl }) (rw none tt)
+      comes terms past legal settled (Start s levels.ReadCommitted) (record { statement = rw (in_hand_is, in_hand_so, block_so, begins) refl; none_open = ap (λ (e : Doing). e.xact) is ∙ none_open; read_committed = refl }) (rw none tt)
 
-  pub comes_done : (reply : Reply) → Answers (statement_of scripts d.hand d.dones) d.acts d.xact d.block reply → Follows (owed scripts past) (Done s reply) → MayCome scripts past (Done s reply)
-  comes_done reply answers follows = comes scripts past legal settled (Done s reply) (record { answers = subst (λ (e : Doing). Answers (statement_of scripts e.hand e.dones) e.acts e.xact e.block reply) (sym is) answers }) follows
+  pub comes_done : (reply : Reply) → Answers (statement_of terms d.hand d.dones) d.acts d.xact d.block reply → Follows (owed terms past) (Done s reply) → MayCome terms past (Done s reply)
+  comes_done reply answers follows = comes terms past legal settled (Done s reply) (record { answers = subst (λ (e : Doing). Answers (statement_of terms e.hand e.dones) e.acts e.xact e.block reply) (sym is) answers }) follows
 
-  pub comes_refuse : (cause : Cause) → cause_of scripts past s ≡ Some cause → Follows (owed scripts past) (Refuse s cause) → MayCome scripts past (Refuse s cause)
-  comes_refuse cause first_true follows = comes scripts past legal settled (Refuse s cause) (record { first_true = first_true }) follows
+  pub comes_refuse : (cause : Cause) → cause_of terms past s ≡ Some cause → Follows (owed terms past) (Refuse s cause) → MayCome terms past (Refuse s cause)
+  comes_refuse cause first_true follows = comes terms past legal settled (Refuse s cause) (record { first_true = first_true }) follows
 
-  pub comes_cancel : (block : ℕ) → d.hand ≡ Some block → owed scripts past ≡ None → MayCome scripts past (Cancel s)
+  pub comes_cancel : (block : ℕ) → d.hand ≡ Some block → owed terms past ≡ None → MayCome terms past (Cancel s)
   comes_cancel block busy none =
       let hand_so : hand past s ≡ Some block = ap (λ (e : Doing). e.hand) is ∙ busy in
-      comes scripts past legal settled (Cancel s) (record { in_step = rw hand_so refl }) (rw none tt)
+      comes terms past legal settled (Cancel s) (record { in_step = rw hand_so refl }) (rw none tt)
 
-  pub comes_end : (block : ℕ) → d.hand ≡ Some block → (statement_of scripts d.hand d.dones ≡ None) ⊎ (d.refused ≡ true) → if_no_block d.block d.xact ≡ None → Follows (owed scripts past) (End s) → MayCome scripts past (End s)
+  pub comes_end : (block : ℕ) → d.hand ≡ Some block → (statement_of terms d.hand d.dones ≡ None) ⊎ (d.refused ≡ true) → if_no_block d.block d.xact ≡ None → Follows (owed terms past) (End s) → MayCome terms past (End s)
   comes_end block busy over none_implicit follows =
       let hand_so : hand past s ≡ Some block = ap (λ (e : Doing). e.hand) is ∙ busy in
-      let ended : (in_hand scripts past s ≡ None) ⊎ (refused past s ≡ true) = by_end over in
-      comes scripts past legal settled (End s) (record { in_step = rw hand_so refl; over = ended; none_implicit = ap (λ (e : Doing). if_no_block e.block e.xact) is ∙ none_implicit }) follows where
-        by_end : (statement_of scripts d.hand d.dones ≡ None) ⊎ (d.refused ≡ true) → (in_hand scripts past s ≡ None) ⊎ (refused past s ≡ true)
+      let ended : (in_hand terms past s ≡ None) ⊎ (refused past s ≡ true) = by_end over in
+      comes terms past legal settled (End s) (record { in_step = rw hand_so refl; over = ended; none_implicit = ap (λ (e : Doing). if_no_block e.block e.xact) is ∙ none_implicit }) follows where
+        by_end : (statement_of terms d.hand d.dones ≡ None) ⊎ (d.refused ≡ true) → (in_hand terms past s ≡ None) ⊎ (refused past s ≡ true)
         by_end (inl last) = inl (in_hand_is ∙ last)
         by_end (inr was) = inr (ap (λ (e : Doing). e.refused) is ∙ was)
 
-  pub comes_close : s < scripts.sessions → d.hand ≡ None → d.closed ≡ false → d.xact ≡ None → Follows (owed scripts past) (Close s) → MayCome scripts past (Close s)
-  comes_close known idle open_so none_open follows = comes scripts past legal settled (Close s) (record { known = known; idle = ap (λ (e : Doing). e.hand) is ∙ idle; not_closed = ap (λ (e : Doing). e.closed) is ∙ open_so; none_open = ap (λ (e : Doing). e.xact) is ∙ none_open }) follows
+  pub comes_close : s < terms.scripts.sessions → d.hand ≡ None → d.closed ≡ false → d.xact ≡ None → Follows (owed terms past) (Close s) → MayCome terms past (Close s)
+  comes_close known idle open_so none_open follows = comes terms past legal settled (Close s) (record { known = known; idle = ap (λ (e : Doing). e.hand) is ∙ idle; not_closed = ap (λ (e : Doing). e.closed) is ∙ open_so; none_open = ap (λ (e : Doing). e.xact) is ∙ none_open }) follows
 
   -- ---- its transaction's
 
   module _ (x : ℕ) (by : IsXact past s x) where
-    pub lacking_is : lacking scripts past x ≡ lacking_in scripts past s x d
-    lacking_is = rw by.session (ap (λ (e : Doing). lacking_in scripts past s x e) is)
+    pub lacking_is : lacking terms past x ≡ lacking_in terms past s x d
+    lacking_is = rw by.session (ap (λ (e : Doing). lacking_in terms past s x e) is)
 
     open_so : xact_of past (session_of past x) ≡ Some x
     open_so = rw by.session by.open_xact
 
-    pub comes_lock : (c : Claim) → c.session ≡ s → grantable past c ≡ true → is_waiting past c ≡ false → lacking_in scripts past s x d ≡ Some c → d.look ≡ None → cause_of scripts past s ≡ None → owed scripts past ≡ None → MayCome scripts past (Lock x c.table c.mode)
+    pub comes_lock : (c : Claim) → c.session ≡ s → grantable past c ≡ true → is_waiting past c ≡ false → lacking_in terms past s x d ≡ Some c → d.look ≡ None → cause_of terms past s ≡ None → owed terms past ≡ None → MayCome terms past (Lock x c.table c.mode)
     comes_lock c own can_be unasked lacks before_look free none =
         let is_claim : claim past x c.table c.mode ≡ c = rw (by.session, ← own) refl in
         let look_so : look_of past s ≡ None = ap (λ (e : Doing). e.look) is ∙ before_look in
-        comes scripts past legal settled (Lock x c.table c.mode) (record {
+        comes terms past legal settled (Lock x c.table c.mode) (record {
           open_xact = open_so;
           can_be = subst (λ (q : Claim). grantable past q ≡ true) (sym is_claim) can_be;
           asked = inr (record { not_waiting = subst (λ (q : Claim). is_waiting past q ≡ false) (sym is_claim) unasked; lacks = lacking_is ∙ lacks ∙ ap Some (sym is_claim); before_look = rw by.session look_so; not_refused = rw by.session free });
         }) (rw none tt)
 
-    pub comes_wait : (c : Claim) (block : ℕ) → c.session ≡ s → grantable past c ≡ false → lacking_in scripts past s x d ≡ Some c → d.look ≡ None → d.hand ≡ Some block → d.wants ≡ None → cause_of scripts past s ≡ None → owed scripts past ≡ None → MayCome scripts past (Wait x (wants.Table c.table c.mode))
+    pub comes_wait : (c : Claim) (block : ℕ) → c.session ≡ s → grantable past c ≡ false → lacking_in terms past s x d ≡ Some c → d.look ≡ None → d.hand ≡ Some block → d.wants ≡ None → cause_of terms past s ≡ None → owed terms past ≡ None → MayCome terms past (Wait x (wants.Table c.table c.mode))
     comes_wait c block own cant_be lacks before_look busy unwaited free none =
         let is_claim : claim past x c.table c.mode ≡ c = rw (by.session, ← own) refl in
         let look_so : look_of past s ≡ None = ap (λ (e : Doing). e.look) is ∙ before_look in
-        comes scripts past legal settled (Wait x (wants.Table c.table c.mode)) (record {
+        comes terms past legal settled (Wait x (wants.Table c.table c.mode)) (record {
           open_xact = open_so;
           in_step = rw by.session (goes block busy unwaited);
           waits_for = (rw by.session look_so, lacking_is ∙ lacks ∙ ap Some (sym is_claim), subst (λ (q : Claim). grantable past q ≡ false) (sym is_claim) cant_be);
           not_refused = rw by.session free;
         }) (rw none tt)
 
-    pub comes_wait_end : (y : ℕ) (statement : Statement) → can_go_on past s ≡ true → IsSome d.look → d.acts ≡ [] → statement_of scripts d.hand d.dones ≡ Some statement → name_taker past x statement ≡ Some y → cause_of scripts past s ≡ None → owed scripts past ≡ None → MayCome scripts past (Wait x (wants.Ends y))
+    pub comes_wait_end : (y : ℕ) (statement : Statement) → can_go_on past s ≡ true → IsSome d.look → d.acts ≡ [] → statement_of terms d.hand d.dones ≡ Some statement → name_taker past x statement ≡ Some y → cause_of terms past s ≡ None → owed terms past ≡ None → MayCome terms past (Wait x (wants.Ends y))
     comes_wait_end y statement goes_on looked none_done in_hand_so taken free none =
         let look_so : IsSome (look_of past s) = subst (λ (e : Doing). IsSome e.look) (sym is) looked in
         let acts_so : acts_of past s ≡ [] = ap (λ (e : Doing). e.acts) is ∙ none_done in
-        comes scripts past legal settled (Wait x (wants.Ends y)) (record {
+        comes terms past legal settled (Wait x (wants.Ends y)) (record {
           open_xact = open_so;
           in_step = rw by.session goes_on;
           waits_for = (rw by.session look_so, rw (by.session, in_hand_is, in_hand_so) taken, rw by.session acts_so);
           not_refused = rw by.session free;
         }) (rw none tt)
 
-    pub comes_look : (statement : Statement) → statement_of scripts d.hand d.dones ≡ Some statement → has_place statement ≡ true → d.look ≡ None → lacking_in scripts past s x d ≡ None → cause_of scripts past s ≡ None → owed scripts past ≡ None → MayCome scripts past (Look x)
+    pub comes_look : (statement : Statement) → statement_of terms d.hand d.dones ≡ Some statement → has_place statement ≡ true → d.look ≡ None → lacking_in terms past s x d ≡ None → cause_of terms past s ≡ None → owed terms past ≡ None → MayCome terms past (Look x)
     comes_look statement in_hand_so placed before_look locked free none =
         let look_so : look_of past s ≡ None = ap (λ (e : Doing). e.look) is ∙ before_look in
-        comes scripts past legal settled (Look x) (record {
+        comes terms past legal settled (Look x) (record {
           open_xact = open_so;
           statement = rw (by.session, in_hand_is, in_hand_so, placed) refl;
           first = rw by.session look_so;
@@ -155,42 +155,42 @@ module _ (scripts : Scripts) (past : Past) (s : ℕ) (d : Doing) (legal : Legal 
           not_refused = rw by.session free;
         }) (rw none tt)
 
-    pub act_rule : IsSome d.look → d.acts ≡ [] → lacking_in scripts past s x d ≡ None → cause_of scripts past s ≡ None → ActRule scripts past x
+    pub act_rule : IsSome d.look → d.acts ≡ [] → lacking_in terms past s x d ≡ None → cause_of terms past s ≡ None → ActRule terms past x
     act_rule looked none_done locked free =
         let look_so : IsSome (look_of past s) = subst (λ (e : Doing). IsSome e.look) (sym is) looked in
         let acts_so : acts_of past s ≡ [] = ap (λ (e : Doing). e.acts) is ∙ none_done in
         record { open_xact = open_so; looked = rw by.session look_so; first = rw by.session acts_so; locked = lacking_is ∙ locked; not_refused = rw by.session free }
 
-    pub comes_make : (name : List ℕ) (shape : List Column) → ActRule scripts past x → Creates (statement_of scripts d.hand d.dones) name shape → first_open past x (makers past name) ≡ None → owed scripts past ≡ None → MayCome scripts past (Make x (length past) name shape)
-    comes_make name shape act creates free none = comes scripts past legal settled (Make x (length past) name shape) (record { act = act; free = free; creates = rw (by.session, in_hand_is) creates; number = refl }) (rw none tt)
+    pub comes_make : (name : List ℕ) (shape : List Column) → ActRule terms past x → Creates (statement_of terms d.hand d.dones) name shape → first_open past x (makers past name) ≡ None → owed terms past ≡ None → MayCome terms past (Make x (length past) name shape)
+    comes_make name shape act creates free none = comes terms past legal settled (Make x (length past) name shape) (record { act = act; free = free; creates = rw (by.session, in_hand_is) creates; number = refl }) (rw none tt)
 
-    pub comes_add : (table : ℕ) (row : List Value) → ActRule scripts past x → Inserts (statement_of scripts d.hand d.dones) (latest scripts past x) table row → owed scripts past ≡ None → MayCome scripts past (Add x table row)
-    comes_add table row act inserts none = comes scripts past legal settled (Add x table row) (record { act = act; inserts = rw (by.session, in_hand_is) inserts }) (rw none tt)
+    pub comes_add : (table : ℕ) (row : List Value) → ActRule terms past x → Inserts (statement_of terms d.hand d.dones) (latest terms past x) table row → owed terms past ≡ None → MayCome terms past (Add x table row)
+    comes_add table row act inserts none = comes terms past legal settled (Add x table row) (record { act = act; inserts = rw (by.session, in_hand_is) inserts }) (rw none tt)
 
-    pub comes_read : (names : List (List ℕ)) (rows : List (List Value)) → ActRule scripts past x → Selects (statement_of scripts d.hand d.dones) (looked_at scripts d.look x) names rows → owed scripts past ≡ None → MayCome scripts past (Read x names rows)
+    pub comes_read : (names : List (List ℕ)) (rows : List (List Value)) → ActRule terms past x → Selects (statement_of terms d.hand d.dones) (looked_at terms d.look x) names rows → owed terms past ≡ None → MayCome terms past (Read x names rows)
     comes_read names rows act selects none =
         let look_so : look_of past s ≡ d.look = ap (λ (e : Doing). e.look) is in
-        comes scripts past legal settled (Read x names rows) (record { act = act; selects = rw (by.session, in_hand_is, look_so) selects }) (rw none tt)
+        comes terms past legal settled (Read x names rows) (record { act = act; selects = rw (by.session, in_hand_is, look_so) selects }) (rw none tt)
 
-    pub comes_alter : (table : ℕ) → ActRule scripts past x → Alters (statement_of scripts d.hand d.dones) (latest scripts past x) table → owed scripts past ≡ None → MayCome scripts past (Alter x table d.dones [])
+    pub comes_alter : (table : ℕ) → ActRule terms past x → Alters (statement_of terms d.hand d.dones) (latest terms past x) table → owed terms past ≡ None → MayCome terms past (Alter x table d.dones [])
     comes_alter table act alters none =
         let dones_so : dones past s ≡ d.dones = ap (λ (e : Doing). e.dones) is in
-        comes scripts past legal settled (Alter x table d.dones []) (record { act = act; alters = rw (by.session, in_hand_is) alters; number = rw by.session (sym dones_so); none_rewritten = refl }) (rw none tt)
+        comes terms past legal settled (Alter x table d.dones []) (record { act = act; alters = rw (by.session, in_hand_is) alters; number = rw by.session (sym dones_so); none_rewritten = refl }) (rw none tt)
 
-    pub comes_commit : (block : ℕ) → d.hand ≡ Some block → d.refused ≡ false → ((statement_of scripts d.hand d.dones ≡ None) × (d.block ≡ NoBlock)) ⊎ (statement_of scripts d.hand d.dones ≡ Some statements.Commit) → Follows (owed scripts past) (Commit x) → MayCome scripts past (Commit x)
+    pub comes_commit : (block : ℕ) → d.hand ≡ Some block → d.refused ≡ false → ((statement_of terms d.hand d.dones ≡ None) × (d.block ≡ NoBlock)) ⊎ (statement_of terms d.hand d.dones ≡ Some statements.Commit) → Follows (owed terms past) (Commit x) → MayCome terms past (Commit x)
     comes_commit block busy unrefused ends follows =
         let hand_so : hand past s ≡ Some block = ap (λ (e : Doing). e.hand) is ∙ busy in
         let refused_so : refused past s ≡ false = ap (λ (e : Doing). e.refused) is ∙ unrefused in
-        comes scripts past legal settled (Commit x) (record { open_xact = open_so; in_step = rw (by.session, hand_so) refl; none_refused = rw by.session refused_so; ends = by_end ends }) follows where
-          by_end : ((statement_of scripts d.hand d.dones ≡ None) × (d.block ≡ NoBlock)) ⊎ (statement_of scripts d.hand d.dones ≡ Some statements.Commit) → ((in_hand scripts past (session_of past x) ≡ None) × (implicit_of past (session_of past x) ≡ Some x)) ⊎ (in_hand scripts past (session_of past x) ≡ Some statements.Commit)
+        comes terms past legal settled (Commit x) (record { open_xact = open_so; in_step = rw (by.session, hand_so) refl; none_refused = rw by.session refused_so; ends = by_end ends }) follows where
+          by_end : ((statement_of terms d.hand d.dones ≡ None) × (d.block ≡ NoBlock)) ⊎ (statement_of terms d.hand d.dones ≡ Some statements.Commit) → ((in_hand terms past (session_of past x) ≡ None) × (implicit_of past (session_of past x) ≡ Some x)) ⊎ (in_hand terms past (session_of past x) ≡ Some statements.Commit)
           by_end (inl last) =
               let block_so : block_state past s ≡ NoBlock = ap (λ (e : Doing). e.block) is ∙ last.1 in
               inl (rw (by.session, in_hand_is) last.0, rw (by.session, block_so, by.open_xact) refl)
           by_end (inr commit) = inr (rw (by.session, in_hand_is) commit)
 
-    pub comes_abort : ((d.refused ≡ true) ⊎ (d.hand ≡ None)) ⊎ (statement_of scripts d.hand d.dones ≡ Some statements.Rollback) → Follows (owed scripts past) (Abort x) → MayCome scripts past (Abort x)
-    comes_abort ends follows = comes scripts past legal settled (Abort x) (record { open_xact = open_so; refused_or_idle = by_end ends }) follows where
-      by_end : ((d.refused ≡ true) ⊎ (d.hand ≡ None)) ⊎ (statement_of scripts d.hand d.dones ≡ Some statements.Rollback) → ((refused past (session_of past x) ≡ true) ⊎ (hand past (session_of past x) ≡ None)) ⊎ (in_hand scripts past (session_of past x) ≡ Some statements.Rollback)
+    pub comes_abort : ((d.refused ≡ true) ⊎ (d.hand ≡ None)) ⊎ (statement_of terms d.hand d.dones ≡ Some statements.Rollback) → Follows (owed terms past) (Abort x) → MayCome terms past (Abort x)
+    comes_abort ends follows = comes terms past legal settled (Abort x) (record { open_xact = open_so; refused_or_idle = by_end ends }) follows where
+      by_end : ((d.refused ≡ true) ⊎ (d.hand ≡ None)) ⊎ (statement_of terms d.hand d.dones ≡ Some statements.Rollback) → ((refused past (session_of past x) ≡ true) ⊎ (hand past (session_of past x) ≡ None)) ⊎ (in_hand terms past (session_of past x) ≡ Some statements.Rollback)
       by_end (inl (inl was)) = let so : refused past s ≡ true = ap (λ (e : Doing). e.refused) is ∙ was in inl (inl (rw by.session so))
       by_end (inl (inr idle)) = let so : hand past s ≡ None = ap (λ (e : Doing). e.hand) is ∙ idle in inl (inr (rw by.session so))
       by_end (inr rollback) = inr (rw (by.session, in_hand_is) rollback)

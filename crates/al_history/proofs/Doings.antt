@@ -6,7 +6,7 @@ use Rattle.std.proofs.lemmas.Bool.{eqb-true}
 use Rattle.al_history.specs.declared.entry.Entry.{Entry}
 use Rattle.al_history.specs.declared.entry.Entry.TheVariants.{Give, Start, Wait, Lock, Look, Make, Add, Read, Alter, Done, Refuse, Commit, Abort, Cancel, End, Close}
 use Rattle.al_history.specs.declared.entry.Want.{Want}
-use Rattle.al_history.specs.declared.statement.Scripts.{Scripts}
+use Rattle.al_history.specs.declared.statement.Terms.{Terms}
 use Rattle.al_history.specs.Past.{Past}
 use Rattle.al_history.specs.Fate.{is_that}
 use Rattle.al_history.specs.Hand.{BlockState, hand, dones, refused, xact_of, session_of, look_of, acts_of, closed, block_state, block_after, failed_at}
@@ -116,13 +116,13 @@ own_moves past s (End r) by = rw (by, if_same s) refl
 own_moves past s (Close r) by = rw (by, if_same s) refl
 
 -- a transaction is of one session alone
-pub apart : (scripts : Scripts) (past : Past) (s r x : ℕ) → Legal scripts past → IsXact past s x → (s == r) ≡ false → is_that (xact_of past r) x ≡ false
-apart scripts past s r x legal by other = by_xact (xact_of past r) refl where
+pub apart : (terms : Terms) (past : Past) (s r x : ℕ) → Legal terms past → IsXact past s x → (s == r) ≡ false → is_that (xact_of past r) x ≡ false
+apart terms past s r x legal by other = by_xact (xact_of past r) refl where
   by_number : (y : ℕ) → xact_of past r ≡ Some y → (b : Bool) → (y == x) ≡ b → b ≡ false
   by_number y is false e = refl
   by_number y is true e =
       let same : y ≡ x = eqb-true y x e in
-      let own : session_of past y ≡ r = (xact_is scripts past r y legal is).own in
+      let own : session_of past y ≡ r = (xact_is terms past r y legal is).own in
       let one : s ≡ r = sym by.session ∙ ap (session_of past) (sym same) ∙ own in
       absurd (let wrong : true ≡ false = rw (one, if_same r) at other in cc)
 
@@ -131,21 +131,21 @@ apart scripts past s r x legal by other = by_xact (xact_of past r) refl where
   by_xact (Some y) is = by_number y is (y == x) refl
 
 -- and leaves the others as they were
-module _ (scripts : Scripts) (past : Past) (s r : ℕ) (legal : Legal scripts past) (other : (s == r) ≡ false) where
+module _ (terms : Terms) (past : Past) (s r : ℕ) (legal : Legal terms past) (other : (s == r) ≡ false) where
   pub others_stay : (e : Entry) → IsBy past s e → doing (e ∷ past) r ≡ doing past r
   others_stay (Give q block) by = rw (by, other) refl
   others_stay (Start q level) by = rw (by, other) refl
   others_stay (Wait x want) by = rw (by.session, other) refl
   others_stay (Lock x table mode) by = rw (by.session, other) refl
-  others_stay (Look x) by = rw (by.session, other, apart scripts past s r x legal by other) refl
-  others_stay (Make x table name shape) by = rw (by.session, other, apart scripts past s r x legal by other) refl
-  others_stay (Add x table row) by = rw (by.session, other, apart scripts past s r x legal by other) refl
-  others_stay (Read x names rows) by = rw (by.session, other, apart scripts past s r x legal by other) refl
-  others_stay (Alter x table statement rewritten) by = rw (by.session, other, apart scripts past s r x legal by other) refl
+  others_stay (Look x) by = rw (by.session, other, apart terms past s r x legal by other) refl
+  others_stay (Make x table name shape) by = rw (by.session, other, apart terms past s r x legal by other) refl
+  others_stay (Add x table row) by = rw (by.session, other, apart terms past s r x legal by other) refl
+  others_stay (Read x names rows) by = rw (by.session, other, apart terms past s r x legal by other) refl
+  others_stay (Alter x table statement rewritten) by = rw (by.session, other, apart terms past s r x legal by other) refl
   others_stay (Done q reply) by = rw (by, other) refl
   others_stay (Refuse q cause) by = rw (by, other) refl
-  others_stay (Commit x) by = rw (by.session, other, apart scripts past s r x legal by other) refl
-  others_stay (Abort x) by = rw (by.session, other, apart scripts past s r x legal by other) refl
+  others_stay (Commit x) by = rw (by.session, other, apart terms past s r x legal by other) refl
+  others_stay (Abort x) by = rw (by.session, other, apart terms past s r x legal by other) refl
   others_stay (Cancel q) by = rw (by, other) refl
   others_stay (End q) by = rw (by, other) refl
   others_stay (Close q) by = rw (by, other) refl

@@ -1,5 +1,6 @@
 pub mod Claims
 pub mod Clear
+pub mod Counts
 pub mod Looks
 pub mod Makers
 pub mod Names
@@ -17,6 +18,7 @@ pub mod VectorsBlocks
 pub mod VectorsCancel
 pub mod VectorsCauses
 pub mod VectorsDue
+pub mod VectorsLimit
 pub mod VectorsLocks
 pub mod VectorsLocksWrong
 pub mod VectorsNames
@@ -33,3 +35,5 @@ pub mod Doings
 pub mod Comes
 pub mod Stays
 pub mod Turns
+pub mod Unblocked
+pub mod Weights

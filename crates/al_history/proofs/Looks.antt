@@ -6,12 +6,13 @@ use Rattle.al_history.specs.declared.entry.Entry.{Entry}
 use Rattle.al_history.specs.declared.entry.Entry.TheVariants.{Give, Start, Lock, Look, Make, Add, Read, Alter, Done, Refuse, Commit, Abort, End}
 use Rattle.al_history.specs.declared.statement.Statement.{Statement}
 use Rattle.al_history.specs.declared.statement.Statement.TheVariants as statements
-use Rattle.al_history.specs.declared.statement.Scripts.{Scripts}
+use Rattle.al_history.specs.declared.statement.Terms.{Terms}
 use Rattle.al_history.specs.Past.{Past}
 use Rattle.al_history.specs.Fate.{is_that}
 use Rattle.al_history.specs.Hand.{hand, dones, refused, in_hand, statement_of, xact_of, implicit_of, session_of, look_of, acts_of}
 use Rattle.al_history.specs.Tail.{abort_or_end, owed, Follows}
-use Rattle.al_history.specs.Rules.{has_place, ActRule}
+use Rattle.al_history.specs.Need.{has_place}
+use Rattle.al_history.specs.Rules.{ActRule}
 use Rattle.al_history.specs.Legal.{Legal}
 use Rattle.al_history.proofs.Pasts.{if_same}
 use Rattle.al_history.proofs.Claims.{is_that_so, some_is, open_start}
@@ -44,41 +45,41 @@ ends_next None e x s follows is = absurd cc
 ends_next (Some next) e x s follows is = let same : next ≡ abort_or_end x s = cc in follows ∙ same
 
 -- what is owed to a session whose step was refused: the Abort of its open transaction, or the End of the step
-pub refused_owes : (scripts : Scripts) (past : Past) (s block : ℕ) → Legal scripts past → refused past s ≡ true → hand past s ≡ Some block → owed scripts past ≡ Some (abort_or_end (xact_of past s) s)
-refused_owes scripts [] s block legal was step = absurd cc
-refused_owes scripts (Give r given ∷ past) s block legal was step = by_test (r == s) was step (λ w h. ends_next (owed scripts past) (Give r given) (xact_of past s) s legal.0.follows (refused_owes scripts past s block legal.1 w h)) where
-  by_test : (b : Bool) → cond b false (refused past s) ≡ true → cond b (Some given) (hand past s) ≡ Some block → (refused past s ≡ true → hand past s ≡ Some block → Give r given ≡ abort_or_end (xact_of past s) s) → owed scripts (Give r given ∷ past) ≡ Some (abort_or_end (xact_of past s) s)
+pub refused_owes : (terms : Terms) (past : Past) (s block : ℕ) → Legal terms past → refused past s ≡ true → hand past s ≡ Some block → owed terms past ≡ Some (abort_or_end (xact_of past s) s)
+refused_owes terms [] s block legal was step = absurd cc
+refused_owes terms (Give r given ∷ past) s block legal was step = by_test (r == s) was step (λ w h. ends_next (owed terms past) (Give r given) (xact_of past s) s legal.0.follows (refused_owes terms past s block legal.1 w h)) where
+  by_test : (b : Bool) → cond b false (refused past s) ≡ true → cond b (Some given) (hand past s) ≡ Some block → (refused past s ≡ true → hand past s ≡ Some block → Give r given ≡ abort_or_end (xact_of past s) s) → owed terms (Give r given ∷ past) ≡ Some (abort_or_end (xact_of past s) s)
   by_test true was step next = absurd cc
   by_test false was step next = absurd (is_ending (xact_of past s) s (Give r given) (next was step))
-refused_owes scripts (Lock x table mode ∷ past) s block legal was step = refused_owes scripts past s block legal.1 was step
-refused_owes scripts (Refuse r cause ∷ past) s block legal was step = by_test (r == s) refl was (λ w. ends_next (owed scripts past) (Refuse r cause) (xact_of past s) s legal.0.follows (refused_owes scripts past s block legal.1 w step)) where
-  by_test : (b : Bool) → (r == s) ≡ b → cond b true (refused past s) ≡ true → (refused past s ≡ true → Refuse r cause ≡ abort_or_end (xact_of past s) s) → owed scripts (Refuse r cause ∷ past) ≡ Some (abort_or_end (xact_of past s) s)
+refused_owes terms (Lock x table mode ∷ past) s block legal was step = refused_owes terms past s block legal.1 was step
+refused_owes terms (Refuse r cause ∷ past) s block legal was step = by_test (r == s) refl was (λ w. ends_next (owed terms past) (Refuse r cause) (xact_of past s) s legal.0.follows (refused_owes terms past s block legal.1 w step)) where
+  by_test : (b : Bool) → (r == s) ≡ b → cond b true (refused past s) ≡ true → (refused past s ≡ true → Refuse r cause ≡ abort_or_end (xact_of past s) s) → owed terms (Refuse r cause ∷ past) ≡ Some (abort_or_end (xact_of past s) s)
   by_test true own was next = rw (eqb-true r s own) refl
   by_test false own was next = absurd (is_ending (xact_of past s) s (Refuse r cause) (next was))
-refused_owes scripts (Abort x ∷ past) s block legal was step =
-    let next : Abort x ≡ abort_or_end (xact_of past s) s = ends_next (owed scripts past) (Abort x) (xact_of past s) s legal.0.follows (refused_owes scripts past s block legal.1 was step) in
+refused_owes terms (Abort x ∷ past) s block legal was step =
+    let next : Abort x ≡ abort_or_end (xact_of past s) s = ends_next (owed terms past) (Abort x) (xact_of past s) s legal.0.follows (refused_owes terms past s block legal.1 was step) in
     let its : xact_of past s ≡ Some x = aborted (xact_of past s) next in
-    let own : session_of past x ≡ s = (xact_is scripts past s x legal.1 its).own in
+    let own : session_of past x ≡ s = (xact_is terms past s x legal.1 its).own in
     rw (own, step, was, its, if_same x) refl where
       aborted : (o : Option ℕ) → Abort x ≡ abort_or_end o s → o ≡ Some x
       aborted None next = absurd cc
       aborted (Some y) next = let same : x ≡ y = cc in rw same refl
-refused_owes scripts (End r ∷ past) s block legal was step =
+refused_owes terms (End r ∷ past) s block legal was step =
     let other : ((r == s) ≡ false) × (hand past s ≡ Some block) = not_none (r == s) (hand past s) block step in
-    let next : End r ≡ abort_or_end (xact_of past s) s = ends_next (owed scripts past) (End r) (xact_of past s) s legal.0.follows (refused_owes scripts past s block legal.1 was other.1) in
+    let next : End r ≡ abort_or_end (xact_of past s) s = ends_next (owed terms past) (End r) (xact_of past s) s legal.0.follows (refused_owes terms past s block legal.1 was other.1) in
     absurd (ended (xact_of past s) next other.0) where
       ended : (o : Option ℕ) → End r ≡ abort_or_end o s → (r == s) ≡ false → ⊥
       ended None next other = let same : r ≡ s = cc in let yes : (r == s) ≡ true = eq-eqb r s same in absurd cc
       ended (Some y) next other = absurd cc
-refused_owes scripts (e ∷ past) s block legal was step = absurd (is_ending (xact_of past s) s e (ends_next (owed scripts past) e (xact_of past s) s legal.0.follows (refused_owes scripts past s block legal.1 was step)))
+refused_owes terms (e ∷ past) s block legal was step = absurd (is_ending (xact_of past s) s e (ends_next (owed terms past) e (xact_of past s) s legal.0.follows (refused_owes terms past s block legal.1 was step)))
 
 -- a step wasn't refused where what comes is no end
-pub step_kept : (scripts : Scripts) (past : Past) (s block : ℕ) (e : Entry) → Legal scripts past → hand past s ≡ Some block → Follows (owed scripts past) e → (IsEnding e → ⊥) → refused past s ≡ false
-step_kept scripts past s block e legal step follows no_end = false_from_ne_true (refused past s) (λ was. no_end (is_ending (xact_of past s) s e (ends_next (owed scripts past) e (xact_of past s) s follows (refused_owes scripts past s block legal was step))))
+pub step_kept : (terms : Terms) (past : Past) (s block : ℕ) (e : Entry) → Legal terms past → hand past s ≡ Some block → Follows (owed terms past) e → (IsEnding e → ⊥) → refused past s ≡ false
+step_kept terms past s block e legal step follows no_end = false_from_ne_true (refused past s) (λ was. no_end (is_ending (xact_of past s) s e (ends_next (owed terms past) e (xact_of past s) s follows (refused_owes terms past s block legal was step))))
 
 -- so it was where nothing is owed
-pub step_kept_between : (scripts : Scripts) (past : Past) (s block : ℕ) → Legal scripts past → hand past s ≡ Some block → owed scripts past ≡ None → refused past s ≡ false
-step_kept_between scripts past s block legal step nothing = false_from_ne_true (refused past s) (λ was. let owing : owed scripts past ≡ Some (abort_or_end (xact_of past s) s) = refused_owes scripts past s block legal was step in absurd cc)
+pub step_kept_between : (terms : Terms) (past : Past) (s block : ℕ) → Legal terms past → hand past s ≡ Some block → owed terms past ≡ None → refused past s ≡ false
+step_kept_between terms past s block legal step nothing = false_from_ne_true (refused past s) (λ was. let owing : owed terms past ≡ Some (abort_or_end (xact_of past s) s) = refused_owes terms past s block legal was step in absurd cc)
 
 -- ---- a statement that has looked
 
@@ -87,9 +88,9 @@ pub record IsInStep (past : Past) (s : ℕ) : Type 0 where
   pub block : ℕ
   pub step : hand past s ≡ Some block
 
-pub in_step : (scripts : Scripts) (past : Past) (s : ℕ) (statement : Statement) → in_hand scripts past s ≡ Some statement → IsInStep past s
-in_step scripts past s statement is = by_hand (hand past s) refl is where
-  by_hand : (o : Option ℕ) → hand past s ≡ o → statement_of scripts o (dones past s) ≡ Some statement → IsInStep past s
+pub in_step : (terms : Terms) (past : Past) (s : ℕ) (statement : Statement) → in_hand terms past s ≡ Some statement → IsInStep past s
+in_step terms past s statement is = by_hand (hand past s) refl is where
+  by_hand : (o : Option ℕ) → hand past s ≡ o → statement_of terms o (dones past s) ≡ Some statement → IsInStep past s
   by_hand None step is = absurd cc
   by_hand (Some block) step is = record { block = block; step = step }
 
@@ -105,91 +106,91 @@ has_looked past s some = by_look (look_of past s) refl some where
   by_look (Some look) is some = record { look = look; looked = is }
 
 -- it has a place
-pub looked_placed : (scripts : Scripts) (past look : Past) (s block : ℕ) → Legal scripts past → look_of past s ≡ Some look → hand past s ≡ Some block → option_map has_place (in_hand scripts past s) ≡ Some true
-looked_placed scripts [] look s block legal looked step = absurd cc
-looked_placed scripts (Give r given ∷ past) look s block legal looked step =
+pub looked_placed : (terms : Terms) (past look : Past) (s block : ℕ) → Legal terms past → look_of past s ≡ Some look → hand past s ≡ Some block → option_map has_place (in_hand terms past s) ≡ Some true
+looked_placed terms [] look s block legal looked step = absurd cc
+looked_placed terms (Give r given ∷ past) look s block legal looked step =
     let other : ((r == s) ≡ false) × (look_of past s ≡ Some look) = not_none (r == s) (look_of past s) look looked in
-    rw other.0 (looked_placed scripts past look s block legal.1 other.1 (rw other.0 at step))
-looked_placed scripts (Done r reply ∷ past) look s block legal looked step =
+    rw other.0 (looked_placed terms past look s block legal.1 other.1 (rw other.0 at step))
+looked_placed terms (Done r reply ∷ past) look s block legal looked step =
     let other : ((r == s) ≡ false) × (look_of past s ≡ Some look) = not_none (r == s) (look_of past s) look looked in
-    rw other.0 (looked_placed scripts past look s block legal.1 other.1 step)
-looked_placed scripts (Look x ∷ past) look s block legal looked step = by_test (is_that (xact_of past s) x) refl looked (λ h. looked_placed scripts past look s block legal.1 h step) where
-  by_test : (b : Bool) → is_that (xact_of past s) x ≡ b → cond b (Some past) (look_of past s) ≡ Some look → (look_of past s ≡ Some look → option_map has_place (in_hand scripts past s) ≡ Some true) → option_map has_place (in_hand scripts past s) ≡ Some true
-  by_test true its looked more = rw (← (xact_is scripts past s x legal.1 (is_that_so (xact_of past s) x its)).own) legal.0.rule.statement
+    rw other.0 (looked_placed terms past look s block legal.1 other.1 step)
+looked_placed terms (Look x ∷ past) look s block legal looked step = by_test (is_that (xact_of past s) x) refl looked (λ h. looked_placed terms past look s block legal.1 h step) where
+  by_test : (b : Bool) → is_that (xact_of past s) x ≡ b → cond b (Some past) (look_of past s) ≡ Some look → (look_of past s ≡ Some look → option_map has_place (in_hand terms past s) ≡ Some true) → option_map has_place (in_hand terms past s) ≡ Some true
+  by_test true its looked more = rw (← (xact_is terms past s x legal.1 (is_that_so (xact_of past s) x its)).own) legal.0.rule.statement
   by_test false other looked more = more looked
-looked_placed scripts (End r ∷ past) look s block legal looked step =
+looked_placed terms (End r ∷ past) look s block legal looked step =
     let other : ((r == s) ≡ false) × (hand past s ≡ Some block) = not_none (r == s) (hand past s) block step in
-    rw other.0 (looked_placed scripts past look s block legal.1 looked other.1)
-looked_placed scripts (e ∷ past) look s block legal looked step = looked_placed scripts past look s block legal.1 looked step
+    rw other.0 (looked_placed terms past look s block legal.1 looked other.1)
+looked_placed terms (e ∷ past) look s block legal looked step = looked_placed terms past look s block legal.1 looked step
 
 -- its transaction is open, unless its step was refused
-pub looked_open : (scripts : Scripts) (past look : Past) (s block : ℕ) → Legal scripts past → look_of past s ≡ Some look → hand past s ≡ Some block → refused past s ≡ false → IsSome (xact_of past s)
-looked_open scripts [] look s block legal looked step kept = absurd cc
-looked_open scripts (Give r given ∷ past) look s block legal looked step kept =
+pub looked_open : (terms : Terms) (past look : Past) (s block : ℕ) → Legal terms past → look_of past s ≡ Some look → hand past s ≡ Some block → refused past s ≡ false → IsSome (xact_of past s)
+looked_open terms [] look s block legal looked step kept = absurd cc
+looked_open terms (Give r given ∷ past) look s block legal looked step kept =
     let other : ((r == s) ≡ false) × (look_of past s ≡ Some look) = not_none (r == s) (look_of past s) look looked in
-    looked_open scripts past look s block legal.1 other.1 (rw other.0 at step) (rw other.0 at kept)
-looked_open scripts (Start r level ∷ past) look s block legal looked step kept = open_start (r == s) _ _ (looked_open scripts past look s block legal.1 looked step kept)
-looked_open scripts (Done r reply ∷ past) look s block legal looked step kept =
+    looked_open terms past look s block legal.1 other.1 (rw other.0 at step) (rw other.0 at kept)
+looked_open terms (Start r level ∷ past) look s block legal looked step kept = open_start (r == s) _ _ (looked_open terms past look s block legal.1 looked step kept)
+looked_open terms (Done r reply ∷ past) look s block legal looked step kept =
     let other : ((r == s) ≡ false) × (look_of past s ≡ Some look) = not_none (r == s) (look_of past s) look looked in
-    looked_open scripts past look s block legal.1 other.1 step kept
-looked_open scripts (Look x ∷ past) look s block legal looked step kept = by_test (is_that (xact_of past s) x) refl looked (λ h. looked_open scripts past look s block legal.1 h step kept) where
+    looked_open terms past look s block legal.1 other.1 step kept
+looked_open terms (Look x ∷ past) look s block legal looked step kept = by_test (is_that (xact_of past s) x) refl looked (λ h. looked_open terms past look s block legal.1 h step kept) where
   by_test : (b : Bool) → is_that (xact_of past s) x ≡ b → cond b (Some past) (look_of past s) ≡ Some look → (look_of past s ≡ Some look → IsSome (xact_of past s)) → IsSome (xact_of past s)
   by_test true its looked more = some_is (is_that_so (xact_of past s) x its)
   by_test false other looked more = more looked
-looked_open scripts (Refuse r cause ∷ past) look s block legal looked step kept = looked_open scripts past look s block legal.1 looked step (not_true (r == s) (refused past s) kept).1
-looked_open scripts (Commit x ∷ past) look s block legal looked step kept = by_test (is_that (xact_of past s) x) refl (looked_open scripts past look s block legal.1 looked step kept) where
-  placed : option_map has_place (in_hand scripts past s) ≡ Some true
-  placed = looked_placed scripts past look s block legal.1 looked step
+looked_open terms (Refuse r cause ∷ past) look s block legal looked step kept = looked_open terms past look s block legal.1 looked step (not_true (r == s) (refused past s) kept).1
+looked_open terms (Commit x ∷ past) look s block legal looked step kept = by_test (is_that (xact_of past s) x) refl (looked_open terms past look s block legal.1 looked step kept) where
+  placed : option_map has_place (in_hand terms past s) ≡ Some true
+  placed = looked_placed terms past look s block legal.1 looked step
 
-  ends : ((in_hand scripts past s ≡ None) × (implicit_of past s ≡ Some x)) ⊎ (in_hand scripts past s ≡ Some statements.Commit) → ⊥
+  ends : ((in_hand terms past s ≡ None) × (implicit_of past s ≡ Some x)) ⊎ (in_hand terms past s ≡ Some statements.Commit) → ⊥
   ends (inl none) = let e : option_map has_place None ≡ Some true = rw none.0 at placed in absurd cc
   ends (inr is) = let e : option_map has_place (Some statements.Commit) ≡ Some true = rw is at placed in absurd cc
 
   by_test : (b : Bool) → is_that (xact_of past s) x ≡ b → IsSome (xact_of past s) → IsSome (cond b None (xact_of past s))
-  by_test true its some = absurd (ends (rw (xact_is scripts past s x legal.1 (is_that_so (xact_of past s) x its)).own at legal.0.rule.ends))
+  by_test true its some = absurd (ends (rw (xact_is terms past s x legal.1 (is_that_so (xact_of past s) x its)).own at legal.0.rule.ends))
   by_test false other some = some
-looked_open scripts (Abort x ∷ past) look s block legal looked step kept = by_test (is_that (xact_of past s) x) refl (looked_open scripts past look s block legal.1 looked step kept) where
-  placed : option_map has_place (in_hand scripts past s) ≡ Some true
-  placed = looked_placed scripts past look s block legal.1 looked step
+looked_open terms (Abort x ∷ past) look s block legal looked step kept = by_test (is_that (xact_of past s) x) refl (looked_open terms past look s block legal.1 looked step kept) where
+  placed : option_map has_place (in_hand terms past s) ≡ Some true
+  placed = looked_placed terms past look s block legal.1 looked step
 
-  ends : ((refused past s ≡ true) ⊎ (hand past s ≡ None)) ⊎ (in_hand scripts past s ≡ Some statements.Rollback) → ⊥
+  ends : ((refused past s ≡ true) ⊎ (hand past s ≡ None)) ⊎ (in_hand terms past s ≡ Some statements.Rollback) → ⊥
   ends (inl (inl was)) = absurd cc
   ends (inl (inr idle)) = absurd cc
   ends (inr is) = let e : option_map has_place (Some statements.Rollback) ≡ Some true = rw is at placed in absurd cc
 
   by_test : (b : Bool) → is_that (xact_of past s) x ≡ b → IsSome (xact_of past s) → IsSome (cond b None (xact_of past s))
-  by_test true its some = absurd (ends (rw (xact_is scripts past s x legal.1 (is_that_so (xact_of past s) x its)).own at legal.0.rule.refused_or_idle))
+  by_test true its some = absurd (ends (rw (xact_is terms past s x legal.1 (is_that_so (xact_of past s) x its)).own at legal.0.rule.refused_or_idle))
   by_test false other some = some
-looked_open scripts (End r ∷ past) look s block legal looked step kept =
+looked_open terms (End r ∷ past) look s block legal looked step kept =
     let other : ((r == s) ≡ false) × (hand past s ≡ Some block) = not_none (r == s) (hand past s) block step in
-    looked_open scripts past look s block legal.1 looked other.1 kept
-looked_open scripts (e ∷ past) look s block legal looked step kept = looked_open scripts past look s block legal.1 looked step kept
+    looked_open terms past look s block legal.1 looked other.1 kept
+looked_open terms (e ∷ past) look s block legal looked step kept = looked_open terms past look s block legal.1 looked step kept
 
 -- what acts is of no session whose statement hasn't looked
-before_look : (scripts : Scripts) (past : Past) (s x : ℕ) → Legal scripts past → ActRule scripts past x → look_of past s ≡ None → is_that (xact_of past s) x ≡ false
-before_look scripts past s x legal act none = false_from_ne_true (is_that (xact_of past s) x) (λ its.
-    let own : session_of past x ≡ s = (xact_is scripts past s x legal (is_that_so (xact_of past s) x its)).own in
+before_look : (terms : Terms) (past : Past) (s x : ℕ) → Legal terms past → ActRule terms past x → look_of past s ≡ None → is_that (xact_of past s) x ≡ false
+before_look terms past s x legal act none = false_from_ne_true (is_that (xact_of past s) x) (λ its.
+    let own : session_of past x ≡ s = (xact_is terms past s x legal (is_that_so (xact_of past s) x its)).own in
     let there : is_some (look_of past s) ≡ true = rw own at act.looked in
     let no : is_some {T = Past} None ≡ true = rw none at there in
     absurd cc)
 
 -- before its Look a statement has done nothing
-pub none_done : (scripts : Scripts) (past : Past) (s : ℕ) → Legal scripts past → look_of past s ≡ None → acts_of past s ≡ []
-none_done scripts [] s legal none = refl
-none_done scripts (Give r block ∷ past) s legal none = by_test (r == s) none (λ h. none_done scripts past s legal.1 h) where
+pub none_done : (terms : Terms) (past : Past) (s : ℕ) → Legal terms past → look_of past s ≡ None → acts_of past s ≡ []
+none_done terms [] s legal none = refl
+none_done terms (Give r block ∷ past) s legal none = by_test (r == s) none (λ h. none_done terms past s legal.1 h) where
   by_test : (b : Bool) → cond b None (look_of past s) ≡ None → (look_of past s ≡ None → acts_of past s ≡ []) → cond b [] (acts_of past s) ≡ []
   by_test true none more = refl
   by_test false none more = more none
-none_done scripts (Done r reply ∷ past) s legal none = by_test (r == s) none (λ h. none_done scripts past s legal.1 h) where
+none_done terms (Done r reply ∷ past) s legal none = by_test (r == s) none (λ h. none_done terms past s legal.1 h) where
   by_test : (b : Bool) → cond b None (look_of past s) ≡ None → (look_of past s ≡ None → acts_of past s ≡ []) → cond b [] (acts_of past s) ≡ []
   by_test true none more = refl
   by_test false none more = more none
-none_done scripts (Look x ∷ past) s legal none = by_test (is_that (xact_of past s) x) none (λ h. none_done scripts past s legal.1 h) where
+none_done terms (Look x ∷ past) s legal none = by_test (is_that (xact_of past s) x) none (λ h. none_done terms past s legal.1 h) where
   by_test : (b : Bool) → cond b (Some past) (look_of past s) ≡ None → (look_of past s ≡ None → acts_of past s ≡ []) → acts_of past s ≡ []
   by_test true none more = absurd cc
   by_test false none more = more none
-none_done scripts (Make x table name shape ∷ past) s legal none = rw (before_look scripts past s x legal.1 legal.0.rule.act none) (none_done scripts past s legal.1 none)
-none_done scripts (Add x table row ∷ past) s legal none = rw (before_look scripts past s x legal.1 legal.0.rule.act none) (none_done scripts past s legal.1 none)
-none_done scripts (Read x names rows ∷ past) s legal none = rw (before_look scripts past s x legal.1 legal.0.rule.act none) (none_done scripts past s legal.1 none)
-none_done scripts (Alter x table statement rewritten ∷ past) s legal none = rw (before_look scripts past s x legal.1 legal.0.rule.act none) (none_done scripts past s legal.1 none)
-none_done scripts (e ∷ past) s legal none = none_done scripts past s legal.1 none
+none_done terms (Make x table name shape ∷ past) s legal none = rw (before_look terms past s x legal.1 legal.0.rule.act none) (none_done terms past s legal.1 none)
+none_done terms (Add x table row ∷ past) s legal none = rw (before_look terms past s x legal.1 legal.0.rule.act none) (none_done terms past s legal.1 none)
+none_done terms (Read x names rows ∷ past) s legal none = rw (before_look terms past s x legal.1 legal.0.rule.act none) (none_done terms past s legal.1 none)
+none_done terms (Alter x table statement rewritten ∷ past) s legal none = rw (before_look terms past s x legal.1 legal.0.rule.act none) (none_done terms past s legal.1 none)
+none_done terms (e ∷ past) s legal none = none_done terms past s legal.1 none

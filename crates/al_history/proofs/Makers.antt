@@ -6,7 +6,7 @@ use Rattle.al_history.specs.declared.entry.Entry.TheVariants.{Start, Make, Add, 
 use Rattle.al_history.specs.declared.statement.Column.{Column}
 use Rattle.al_history.specs.declared.statement.Statement.{Statement}
 use Rattle.al_history.specs.declared.statement.Statement.TheVariants as statements
-use Rattle.al_history.specs.declared.statement.Scripts.{Scripts}
+use Rattle.al_history.specs.declared.statement.Terms.{Terms}
 use Rattle.al_history.specs.Past.{Past}
 use Rattle.al_history.specs.Database.{same_name}
 use Rattle.al_history.specs.Hand.{hand, session_of, statement_of}
@@ -76,14 +76,14 @@ slot_each P (Some (statements.AddColumn name column)) x t each own = each_push P
 slot_each P o x t each own = each
 
 -- the numbers of the tables that are stored ascend, and are places before
-pub store_ascends : (scripts : Scripts) (past : Past) → Legal scripts past → Ascend 0 (length past) (store scripts past)
-store_ascends scripts [] legal = tt
-store_ascends scripts (Make x table name shape ∷ past) legal = ascend_push 0 (length past) _ _ _ (omega arith) legal.0.rule.number (omega arith) (store_ascends scripts past legal.1)
-store_ascends scripts (Add x table row ∷ past) legal = ascend_with 0 (length past) _ table _ _ (omega arith) (λ t. refl) (store_ascends scripts past legal.1)
-store_ascends scripts (Alter x table statement rewritten ∷ past) legal =
-    let o : Option Statement = statement_of scripts (hand past (session_of past x)) statement in
-    ascend_with 0 (length past) _ table (kept_slot o x) _ (omega arith) (λ t. (slot_added o x t).number) (store_ascends scripts past legal.1)
-store_ascends scripts (e ∷ past) legal = ascend_more 0 (length past) _ _ (omega arith) (store_ascends scripts past legal.1)
+pub store_ascends : (terms : Terms) (past : Past) → Legal terms past → Ascend 0 (length past) (store terms past)
+store_ascends terms [] legal = tt
+store_ascends terms (Make x table name shape ∷ past) legal = ascend_push 0 (length past) _ _ _ (omega arith) legal.0.rule.number (omega arith) (store_ascends terms past legal.1)
+store_ascends terms (Add x table row ∷ past) legal = ascend_with 0 (length past) _ table _ _ (omega arith) (λ t. refl) (store_ascends terms past legal.1)
+store_ascends terms (Alter x table statement rewritten ∷ past) legal =
+    let o : Option Statement = statement_of terms (hand past (session_of past x)) statement in
+    ascend_with 0 (length past) _ table (kept_slot o x) _ (omega arith) (λ t. (slot_added o x t).number) (store_ascends terms past legal.1)
+store_ascends terms (e ∷ past) legal = ascend_more 0 (length past) _ _ (omega arith) (store_ascends terms past legal.1)
 
 -- ---- makers
 
@@ -108,20 +108,20 @@ began_more place b z began = by_test (place == z) where
   by_test false = began
 
 -- all that is stored was made by transactions
-pub makers_began : (scripts : Scripts) (past : Past) → Legal scripts past → Each (AreMade (Began past)) (store scripts past)
-makers_began scripts [] legal = tt
-makers_began scripts (Start r level ∷ past) legal = each_more (AreMade (Began past)) (AreMade (Began (Start r level ∷ past))) _ (made_more (Began past) (Began (Start r level ∷ past)) (λ z began. began_more (length past) _ z began)) (makers_began scripts past legal.1)
-makers_began scripts (Make x table name shape ∷ past) legal =
-    let own : Began past x = (xact_is scripts past (session_of past x) x legal.1 legal.0.rule.act.open_xact).began in
-    each_push (AreMade (Began past)) (store scripts past) _ (makers_began scripts past legal.1) (own, made_slots (Began past) x shape own, tt)
-makers_began scripts (Add x table row ∷ past) legal =
-    let own : Began past x = (xact_is scripts past (session_of past x) x legal.1 legal.0.rule.act.open_xact).began in
-    each_with (AreMade (Began past)) (AreMade (Began past)) table (kept_row (length past) x (sees past (Some x)) row) (store scripts past) (λ t made. made) (λ t here made. (made.0, made.1, each_push (λ (r : KeptRow). Began past r.maker) t.rows _ made.2 own)) (makers_began scripts past legal.1)
-makers_began scripts (Alter x table statement rewritten ∷ past) legal =
-    let own : Began past x = (xact_is scripts past (session_of past x) x legal.1 legal.0.rule.act.open_xact).began in
-    let o : Option Statement = statement_of scripts (hand past (session_of past x)) statement in
-    each_with (AreMade (Began past)) (AreMade (Began past)) table (kept_slot o x) (store scripts past) (λ t made. made) (λ t here made. (rw (slot_added o x t).maker made.0, slot_each (λ (slot : Slot). Began past slot.maker) o x t made.1 (λ column. own), rw (slot_added o x t).rows made.2)) (makers_began scripts past legal.1)
-makers_began scripts (e ∷ past) legal = makers_began scripts past legal.1
+pub makers_began : (terms : Terms) (past : Past) → Legal terms past → Each (AreMade (Began past)) (store terms past)
+makers_began terms [] legal = tt
+makers_began terms (Start r level ∷ past) legal = each_more (AreMade (Began past)) (AreMade (Began (Start r level ∷ past))) _ (made_more (Began past) (Began (Start r level ∷ past)) (λ z began. began_more (length past) _ z began)) (makers_began terms past legal.1)
+makers_began terms (Make x table name shape ∷ past) legal =
+    let own : Began past x = (xact_is terms past (session_of past x) x legal.1 legal.0.rule.act.open_xact).began in
+    each_push (AreMade (Began past)) (store terms past) _ (makers_began terms past legal.1) (own, made_slots (Began past) x shape own, tt)
+makers_began terms (Add x table row ∷ past) legal =
+    let own : Began past x = (xact_is terms past (session_of past x) x legal.1 legal.0.rule.act.open_xact).began in
+    each_with (AreMade (Began past)) (AreMade (Began past)) table (kept_row (length past) x (sees past (Some x)) row) (store terms past) (λ t made. made) (λ t here made. (made.0, made.1, each_push (λ (r : KeptRow). Began past r.maker) t.rows _ made.2 own)) (makers_began terms past legal.1)
+makers_began terms (Alter x table statement rewritten ∷ past) legal =
+    let own : Began past x = (xact_is terms past (session_of past x) x legal.1 legal.0.rule.act.open_xact).began in
+    let o : Option Statement = statement_of terms (hand past (session_of past x)) statement in
+    each_with (AreMade (Began past)) (AreMade (Began past)) table (kept_slot o x) (store terms past) (λ t made. made) (λ t here made. (rw (slot_added o x t).maker made.0, slot_each (λ (slot : Slot). Began past slot.maker) o x t made.1 (λ column. own), rw (slot_added o x t).rows made.2)) (makers_began terms past legal.1)
+makers_began terms (e ∷ past) legal = makers_began terms past legal.1
 
 -- the makers of the tables of this name, in order
 abbrev pub makers_among : List KeptTable → List ℕ → List ℕ
@@ -147,11 +147,11 @@ among_with number h (t ∷ tables) name maker called = by_test (t.number == numb
   by_test false rest = rw rest refl
 
 -- the transactions that made a table of a name are the makers of those that are stored
-pub makers_stored : (scripts : Scripts) (past : Past) (name : List ℕ) → makers past name ≡ makers_among (store scripts past) name
-makers_stored scripts [] name = refl
-makers_stored scripts (Make x table other shape ∷ past) name = rw (makers_stored scripts past name) (sym (among_push (store scripts past) _ name))
-makers_stored scripts (Add x table row ∷ past) name = makers_stored scripts past name ∙ sym (among_with table (kept_row (length past) x (sees past (Some x)) row) (store scripts past) name (λ t. refl) (λ t. refl))
-makers_stored scripts (Alter x table statement rewritten ∷ past) name =
-    let o : Option Statement = statement_of scripts (hand past (session_of past x)) statement in
-    makers_stored scripts past name ∙ sym (among_with table (kept_slot o x) (store scripts past) name (λ t. (slot_added o x t).maker) (λ t. (slot_added o x t).name))
-makers_stored scripts (e ∷ past) name = makers_stored scripts past name
+pub makers_stored : (terms : Terms) (past : Past) (name : List ℕ) → makers past name ≡ makers_among (store terms past) name
+makers_stored terms [] name = refl
+makers_stored terms (Make x table other shape ∷ past) name = rw (makers_stored terms past name) (sym (among_push (store terms past) _ name))
+makers_stored terms (Add x table row ∷ past) name = makers_stored terms past name ∙ sym (among_with table (kept_row (length past) x (sees past (Some x)) row) (store terms past) name (λ t. refl) (λ t. refl))
+makers_stored terms (Alter x table statement rewritten ∷ past) name =
+    let o : Option Statement = statement_of terms (hand past (session_of past x)) statement in
+    makers_stored terms past name ∙ sym (among_with table (kept_slot o x) (store terms past) name (λ t. (slot_added o x t).maker) (λ t. (slot_added o x t).name))
+makers_stored terms (e ∷ past) name = makers_stored terms past name

@@ -9,7 +9,7 @@ use Rattle.al_history.specs.declared.entry.Entry.TheVariants.{Make, Add, Alter}
 use Rattle.al_history.specs.declared.statement.Column.{Column}
 use Rattle.al_history.specs.declared.statement.Statement.{Statement}
 use Rattle.al_history.specs.declared.statement.Statement.TheVariants as statements
-use Rattle.al_history.specs.declared.statement.Scripts.{Scripts}
+use Rattle.al_history.specs.declared.statement.Terms.{Terms}
 use Rattle.al_history.specs.Past.{Past}
 use Rattle.al_history.specs.Database.{Table, Database, same_name, named, has_table, has_row, with_table}
 use Rattle.al_history.specs.Change.{made, with_row, added, Alteration, alteration, after_alteration, altered}
@@ -117,12 +117,12 @@ once_altered : (o : Option Statement) (number : ℕ) (db : Database) → NamesOn
 once_altered (Some (statements.AddColumn name column)) number db once = once_with number (λ t. after_alteration (alteration column t) t) db (column_keeps column) once
 once_altered o number db once = once
 
-pub names_once : (scripts : Scripts) (stands : ℕ → Standing) (past : Past) → NamesOnce (view_by scripts stands past)
-names_once scripts stands [] = tt
-names_once scripts stands (Make x table name shape ∷ past) = both_of NamesOnce (stands x) _ _ (once_made table name shape _ (names_once scripts stands past)) (names_once scripts stands past)
-names_once scripts stands (Add x table row ∷ past) = inside_of NamesOnce (stands x) _ _ (once_with table (with_row (length past) row) _ (row_keeps (length past) row) (names_once scripts stands past)) (names_once scripts stands past)
-names_once scripts stands (Alter x table statement rewritten ∷ past) = both_of NamesOnce (stands x) _ _ (once_altered (statement_of scripts (hand past (session_of past x)) statement) table _ (names_once scripts stands past)) (names_once scripts stands past)
-names_once scripts stands (e ∷ past) = names_once scripts stands past
+pub names_once : (terms : Terms) (stands : ℕ → Standing) (past : Past) → NamesOnce (view_by terms stands past)
+names_once terms stands [] = tt
+names_once terms stands (Make x table name shape ∷ past) = both_of NamesOnce (stands x) _ _ (once_made table name shape _ (names_once terms stands past)) (names_once terms stands past)
+names_once terms stands (Add x table row ∷ past) = inside_of NamesOnce (stands x) _ _ (once_with table (with_row (length past) row) _ (row_keeps (length past) row) (names_once terms stands past)) (names_once terms stands past)
+names_once terms stands (Alter x table statement rewritten ∷ past) = both_of NamesOnce (stands x) _ _ (once_altered (statement_of terms (hand past (session_of past x)) statement) table _ (names_once terms stands past)) (names_once terms stands past)
+names_once terms stands (e ∷ past) = names_once terms stands past
 
 -- ---- a table stays found
 

@@ -8,7 +8,7 @@ use Rattle.al_history.specs.declared.entry.Cause.TheVariants as causes
 use Rattle.al_history.specs.declared.statement.Column.{Column}
 use Rattle.al_history.specs.declared.statement.Statement.{Statement}
 use Rattle.al_history.specs.declared.statement.Statement.TheVariants as statements
-use Rattle.al_history.specs.declared.statement.Scripts.{Scripts}
+use Rattle.al_history.specs.declared.statement.Terms.{Terms}
 use Rattle.al_history.specs.Past.{Past}
 use Rattle.al_history.specs.Database.{Table, Database, named, has_column}
 use Rattle.al_history.specs.Change.{shape_of, filled, alteration, Passes}
@@ -91,9 +91,9 @@ used_held s claims db (statements.AddColumn other column) name t none uses found
 used_held s claims db statement name t none uses found = absurd cc
 
 -- the same of the statement in hand
-pub lock_held : (scripts : Scripts) (past : Past) (x : ℕ) (statement : Statement) (name : List ℕ) (t : Table) → lacking scripts past x ≡ None → in_hand scripts past (session_of past x) ≡ Some statement → used_name statement ≡ Some name → named (latest scripts past x) name ≡ Some t → is_held (held past) (record { session = session_of past x; table = t.number; mode = needed_mode statement }) ≡ true
-lock_held scripts past x statement name t none is uses found = used_held (session_of past x) (held past) (latest scripts past x) statement name t (first (in_hand scripts past (session_of past x)) is none) uses found where
-  first : (o : Option Statement) → o ≡ Some statement → option_and_then (λ q. first_lacking (held past) (need (session_of past x) q (latest scripts past x))) o ≡ None → first_lacking (held past) (need (session_of past x) statement (latest scripts past x)) ≡ None
+pub lock_held : (terms : Terms) (past : Past) (x : ℕ) (statement : Statement) (name : List ℕ) (t : Table) → lacking terms past x ≡ None → in_hand terms past (session_of past x) ≡ Some statement → used_name statement ≡ Some name → named (latest terms past x) name ≡ Some t → is_held (held past) (record { session = session_of past x; table = t.number; mode = needed_mode statement }) ≡ true
+lock_held terms past x statement name t none is uses found = used_held (session_of past x) (held past) (latest terms past x) statement name t (first (in_hand terms past (session_of past x)) is none) uses found where
+  first : (o : Option Statement) → o ≡ Some statement → option_and_then (λ q. first_lacking (held past) (need (session_of past x) q (latest terms past x))) o ≡ None → first_lacking (held past) (need (session_of past x) statement (latest terms past x)) ≡ None
   first None is none = absurd cc
   first (Some q) is none = let same : q ≡ statement = cc in rw (← same) none
 
@@ -125,13 +125,13 @@ lacks_of s claims db (statements.AddColumn name column) c lacks = lacks_table s 
 lacks_of s claims db statement c lacks = absurd cc
 
 -- the same of the statement in hand
-pub record LacksInHand (scripts : Scripts) (past : Past) (x : ℕ) (c : Claim) : Type 0 where
+pub record LacksInHand (terms : Terms) (past : Past) (x : ℕ) (c : Claim) : Type 0 where
   pub statement : Statement
-  pub is : in_hand scripts past (session_of past x) ≡ Some statement
-  pub lacks : IsLacking (session_of past x) (held past) (latest scripts past x) statement c
+  pub is : in_hand terms past (session_of past x) ≡ Some statement
+  pub lacks : IsLacking (session_of past x) (held past) (latest terms past x) statement c
 
-pub lacks_in_hand : (scripts : Scripts) (past : Past) (x : ℕ) (c : Claim) → lacking scripts past x ≡ Some c → LacksInHand scripts past x c
-lacks_in_hand scripts past x c lacks = by_statement (in_hand scripts past (session_of past x)) refl lacks where
-  by_statement : (o : Option Statement) → in_hand scripts past (session_of past x) ≡ o → option_and_then (λ q. first_lacking (held past) (need (session_of past x) q (latest scripts past x))) o ≡ Some c → LacksInHand scripts past x c
+pub lacks_in_hand : (terms : Terms) (past : Past) (x : ℕ) (c : Claim) → lacking terms past x ≡ Some c → LacksInHand terms past x c
+lacks_in_hand terms past x c lacks = by_statement (in_hand terms past (session_of past x)) refl lacks where
+  by_statement : (o : Option Statement) → in_hand terms past (session_of past x) ≡ o → option_and_then (λ q. first_lacking (held past) (need (session_of past x) q (latest terms past x))) o ≡ Some c → LacksInHand terms past x c
   by_statement None is lacks = absurd cc
-  by_statement (Some statement) is lacks = record { statement = statement; is = is; lacks = lacks_of (session_of past x) (held past) (latest scripts past x) statement c lacks }
+  by_statement (Some statement) is lacks = record { statement = statement; is = is; lacks = lacks_of (session_of past x) (held past) (latest terms past x) statement c lacks }

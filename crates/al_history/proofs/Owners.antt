@@ -7,7 +7,7 @@ use Rattle.al_history.specs.declared.entry.Entry.TheVariants.{Start, Lock, Make,
 use Rattle.al_history.specs.declared.entry.Rewritten.{Rewritten}
 use Rattle.al_history.specs.declared.statement.Column.{Column}
 use Rattle.al_history.specs.declared.statement.Statement.{Statement}
-use Rattle.al_history.specs.declared.statement.Scripts.{Scripts}
+use Rattle.al_history.specs.declared.statement.Terms.{Terms}
 use Rattle.al_history.specs.Past.{Past}
 use Rattle.al_history.specs.Fate.{Open, Committed, Aborted, fate}
 use Rattle.al_history.specs.Hand.{hand, session_of, xact_of, statement_of, in_hand}
@@ -59,11 +59,11 @@ owned_lock past c n m y owned undecided = by_case (owned undecided) where
   by_case (inr there) = inr (held_still (held past) (sole_claim (session_of past y) n) c there)
 
 -- another transaction's end leaves what y owns
-owned_end : (scripts : Scripts) (past : Past) (x n m y : ℕ) → Legal scripts past → xact_of past (session_of past x) ≡ Some x → (x == y) ≡ false → Began past y → IsOwned past n m y → fate past y ≡ Open → (y ≡ m) ⊎ (is_held (without (session_of past x) (held past)) (sole_claim (session_of past y) n) ≡ true)
-owned_end scripts past x n m y legal own other began owned undecided = by_case (owned undecided) where
+owned_end : (terms : Terms) (past : Past) (x n m y : ℕ) → Legal terms past → xact_of past (session_of past x) ≡ Some x → (x == y) ≡ false → Began past y → IsOwned past n m y → fate past y ≡ Open → (y ≡ m) ⊎ (is_held (without (session_of past x) (held past)) (sole_claim (session_of past y) n) ≡ true)
+owned_end terms past x n m y legal own other began owned undecided = by_case (owned undecided) where
   apart : (session_of past y == session_of past x) ≡ false
   apart = ne_eqb _ _ (λ e.
-      let of_y : xact_of past (session_of past y) ≡ Some y = open_own scripts past y legal began undecided in
+      let of_y : xact_of past (session_of past y) ≡ Some y = open_own terms past y legal began undecided in
       let of_x : xact_of past (session_of past y) ≡ Some x = rw e own in
       let same : x ≡ y = cc in
       let yes : (x == y) ≡ true = eq-eqb x y same in
@@ -73,39 +73,39 @@ owned_end scripts past x n m y legal own other began owned undecided = by_case (
   by_case (inl own) = inl own
   by_case (inr there) = inr (held_besides (session_of past x) (held past) (sole_claim (session_of past y) n) apart there)
 
-owned_commit : (scripts : Scripts) (past : Past) (x n m y : ℕ) → Legal scripts past → xact_of past (session_of past x) ≡ Some x → Began past y → IsOwned past n m y → IsOwned (Commit x ∷ past) n m y
-owned_commit scripts past x n m y legal own began owned undecided = by_test (x == y) refl undecided where
+owned_commit : (terms : Terms) (past : Past) (x n m y : ℕ) → Legal terms past → xact_of past (session_of past x) ≡ Some x → Began past y → IsOwned past n m y → IsOwned (Commit x ∷ past) n m y
+owned_commit terms past x n m y legal own began owned undecided = by_test (x == y) refl undecided where
   by_test : (b : Bool) → (x == y) ≡ b → cond b Committed (fate past y) ≡ Open → (y ≡ m) ⊎ (is_held (without (session_of past x) (held past)) (sole_claim (session_of past y) n) ≡ true)
   by_test true here undecided = absurd cc
-  by_test false here undecided = owned_end scripts past x n m y legal own here began owned undecided
+  by_test false here undecided = owned_end terms past x n m y legal own here began owned undecided
 
-owned_abort : (scripts : Scripts) (past : Past) (x n m y : ℕ) → Legal scripts past → xact_of past (session_of past x) ≡ Some x → Began past y → IsOwned past n m y → IsOwned (Abort x ∷ past) n m y
-owned_abort scripts past x n m y legal own began owned undecided = by_test (x == y) refl undecided where
+owned_abort : (terms : Terms) (past : Past) (x n m y : ℕ) → Legal terms past → xact_of past (session_of past x) ≡ Some x → Began past y → IsOwned past n m y → IsOwned (Abort x ∷ past) n m y
+owned_abort terms past x n m y legal own began owned undecided = by_test (x == y) refl undecided where
   by_test : (b : Bool) → (x == y) ≡ b → cond b Aborted (fate past y) ≡ Open → (y ≡ m) ⊎ (is_held (without (session_of past x) (held past)) (sole_claim (session_of past y) n) ≡ true)
   by_test true here undecided = absurd cc
-  by_test false here undecided = owned_end scripts past x n m y legal own here began owned undecided
+  by_test false here undecided = owned_end terms past x n m y legal own here began owned undecided
 
 owned_slots : (past : Past) (n x : ℕ) (columns : List Column) → Each (λ (slot : Slot). IsOwned past n x slot.maker) (slots_of x columns)
 owned_slots past n x [] = tt
 owned_slots past n x (c ∷ columns) = ((λ undecided. inl refl), owned_slots past n x columns)
 
 -- an ALTER TABLE has its table alone
-pub alter_held : (scripts : Scripts) (past : Past) (x table statement : ℕ) (rewritten : List Rewritten) → AlterRule scripts past x table statement rewritten → is_held (held past) (sole_claim (session_of past x) table) ≡ true
-alter_held scripts past x table statement rewritten rule =
-    let is : IsAddition (in_hand scripts past (session_of past x)) (latest scripts past x) table = addition (in_hand scripts past (session_of past x)) (latest scripts past x) table rule.alters in
-    rw is.number (lock_held scripts past x _ is.name is.t rule.act.locked is.is refl is.found)
+pub alter_held : (terms : Terms) (past : Past) (x table statement : ℕ) (rewritten : List Rewritten) → AlterRule terms past x table statement rewritten → is_held (held past) (sole_claim (session_of past x) table) ≡ true
+alter_held terms past x table statement rewritten rule =
+    let is : IsAddition (in_hand terms past (session_of past x)) (latest terms past x) table = addition (in_hand terms past (session_of past x)) (latest terms past x) table rule.alters in
+    rw is.number (lock_held terms past x _ is.name is.t rule.act.locked is.is refl is.found)
 
 -- each column whose maker is open is in a table that this made, or has alone
-pub slots_owned : (scripts : Scripts) (past : Past) → Legal scripts past → Each (AreOwned past) (store scripts past)
-slots_owned scripts [] legal = tt
-slots_owned scripts (Start r level ∷ past) legal = owned_more past (Start r level ∷ past) (store scripts past) (λ n m y began owned. owned_start past r (length past) n m y refl began owned) (makers_began scripts past legal.1) (slots_owned scripts past legal.1)
-slots_owned scripts (Lock x table mode ∷ past) legal = owned_more past (Lock x table mode ∷ past) (store scripts past) (λ n m y began owned. owned_lock past (claim past x table mode) n m y owned) (makers_began scripts past legal.1) (slots_owned scripts past legal.1)
-slots_owned scripts (Commit x ∷ past) legal = owned_more past (Commit x ∷ past) (store scripts past) (λ n m y. owned_commit scripts past x n m y legal.1 legal.0.rule.open_xact) (makers_began scripts past legal.1) (slots_owned scripts past legal.1)
-slots_owned scripts (Abort x ∷ past) legal = owned_more past (Abort x ∷ past) (store scripts past) (λ n m y. owned_abort scripts past x n m y legal.1 legal.0.rule.open_xact) (makers_began scripts past legal.1) (slots_owned scripts past legal.1)
-slots_owned scripts (Make x table name shape ∷ past) legal = each_push (AreOwned past) (store scripts past) _ (slots_owned scripts past legal.1) (owned_slots past table x shape)
-slots_owned scripts (Add x table row ∷ past) legal = each_with (AreOwned past) (AreOwned past) table (kept_row (length past) x (sees past (Some x)) row) (store scripts past) (λ t owned. owned) (λ t here owned. owned) (slots_owned scripts past legal.1)
-slots_owned scripts (Alter x table statement rewritten ∷ past) legal =
-    let o : Option Statement = statement_of scripts (hand past (session_of past x)) statement in
-    let alone : is_held (held past) (sole_claim (session_of past x) table) ≡ true = alter_held scripts past x table statement rewritten legal.0.rule in
-    each_with (AreOwned past) (AreOwned past) table (kept_slot o x) (store scripts past) (λ t owned. owned) (λ t here owned. rw ((slot_added o x t).number, (slot_added o x t).maker) (slot_each (λ (slot : Slot). IsOwned past t.number t.maker slot.maker) o x t owned (λ column undecided. inr (rw here alone)))) (slots_owned scripts past legal.1)
-slots_owned scripts (e ∷ past) legal = slots_owned scripts past legal.1
+pub slots_owned : (terms : Terms) (past : Past) → Legal terms past → Each (AreOwned past) (store terms past)
+slots_owned terms [] legal = tt
+slots_owned terms (Start r level ∷ past) legal = owned_more past (Start r level ∷ past) (store terms past) (λ n m y began owned. owned_start past r (length past) n m y refl began owned) (makers_began terms past legal.1) (slots_owned terms past legal.1)
+slots_owned terms (Lock x table mode ∷ past) legal = owned_more past (Lock x table mode ∷ past) (store terms past) (λ n m y began owned. owned_lock past (claim past x table mode) n m y owned) (makers_began terms past legal.1) (slots_owned terms past legal.1)
+slots_owned terms (Commit x ∷ past) legal = owned_more past (Commit x ∷ past) (store terms past) (λ n m y. owned_commit terms past x n m y legal.1 legal.0.rule.open_xact) (makers_began terms past legal.1) (slots_owned terms past legal.1)
+slots_owned terms (Abort x ∷ past) legal = owned_more past (Abort x ∷ past) (store terms past) (λ n m y. owned_abort terms past x n m y legal.1 legal.0.rule.open_xact) (makers_began terms past legal.1) (slots_owned terms past legal.1)
+slots_owned terms (Make x table name shape ∷ past) legal = each_push (AreOwned past) (store terms past) _ (slots_owned terms past legal.1) (owned_slots past table x shape)
+slots_owned terms (Add x table row ∷ past) legal = each_with (AreOwned past) (AreOwned past) table (kept_row (length past) x (sees past (Some x)) row) (store terms past) (λ t owned. owned) (λ t here owned. owned) (slots_owned terms past legal.1)
+slots_owned terms (Alter x table statement rewritten ∷ past) legal =
+    let o : Option Statement = statement_of terms (hand past (session_of past x)) statement in
+    let alone : is_held (held past) (sole_claim (session_of past x) table) ≡ true = alter_held terms past x table statement rewritten legal.0.rule in
+    each_with (AreOwned past) (AreOwned past) table (kept_slot o x) (store terms past) (λ t owned. owned) (λ t here owned. rw ((slot_added o x t).number, (slot_added o x t).maker) (slot_each (λ (slot : Slot). IsOwned past t.number t.maker slot.maker) o x t owned (λ column undecided. inr (rw here alone)))) (slots_owned terms past legal.1)
+slots_owned terms (e ∷ past) legal = slots_owned terms past legal.1

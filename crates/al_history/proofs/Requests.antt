@@ -11,7 +11,7 @@ use Rattle.al_history.specs.declared.entry.Entry.{Entry}
 use Rattle.al_history.specs.declared.entry.Entry.TheVariants.{Give, Start, Wait, Lock, Look, Make, Add, Read, Alter, Done, Refuse, Commit, Abort, Cancel, End, Close}
 use Rattle.al_history.specs.declared.statement.Statement.{Statement}
 use Rattle.al_history.specs.declared.statement.Statement.TheVariants as statements
-use Rattle.al_history.specs.declared.statement.Scripts.{Scripts}
+use Rattle.al_history.specs.declared.statement.Terms.{Terms}
 use Rattle.al_history.specs.Past.{Past}
 use Rattle.al_history.specs.Database.{Table, named}
 use Rattle.al_history.specs.Fate.{is_that}
@@ -36,7 +36,7 @@ use Rattle.al_history.proofs.Xacts.{xact_is, turn}
 -- ---- who waits
 
 -- the session of a request waits for it: nothing came from it since, and it lacks the lock still
-pub record IsAwaiting (scripts : Scripts) (past : Past) (c : Claim) : Type 0 where
+pub record IsAwaiting (terms : Terms) (past : Past) (c : Claim) : Type 0 where
   pub x : ℕ
   pub own : xact_of past c.session ≡ Some x
   pub wanted : wanted_by past c.session ≡ Some (wants.Table c.table c.mode)
@@ -44,9 +44,9 @@ pub record IsAwaiting (scripts : Scripts) (past : Past) (c : Claim) : Type 0 whe
   pub statement : Statement
   pub name : List ℕ
   pub t : Table
-  pub is : in_hand scripts past c.session ≡ Some statement
+  pub is : in_hand terms past c.session ≡ Some statement
   pub uses : used_name statement ≡ Some name
-  pub found : named (latest scripts past x) name ≡ Some t
+  pub found : named (latest terms past x) name ≡ Some t
   pub claimed : c ≡ record { session = c.session; table = t.number; mode = needed_mode statement }
   pub absent : is_held (held past) c ≡ false
 
@@ -56,31 +56,31 @@ IsLeaving past (Some (Refuse r cause)) s = r ≡ s
 IsLeaving past (Some (Abort x)) s = session_of past x ≡ s
 IsLeaving past o s = ⊥
 
-leaves_next : (past : Past) (o : Option Entry) (e : Entry) (s : ℕ) → Follows o e → IsLeaving past o s → IsLeaving past (Some e) s
+pub leaves_next : (past : Past) (o : Option Entry) (e : Entry) (s : ℕ) → Follows o e → IsLeaving past o s → IsLeaving past (Some e) s
 leaves_next past None e s follows leaving = absurd leaving
 leaves_next past (Some next) e s follows leaving = rw follows leaving
 
 -- who leaves has left once its transaction is aborted
-leaves_on : (scripts : Scripts) (past : Past) (e : Entry) (c : Claim) → Legal scripts (e ∷ past) → is_held (waiting past) c ≡ true → is_held (waiting (e ∷ past)) c ≡ true → IsLeaving past (owed scripts past) c.session → IsLeaving (e ∷ past) (owed scripts (e ∷ past)) c.session
-leaves_on scripts past (Lock x table mode) c legal before there leaving = leaving
-leaves_on scripts past (Refuse r cause) c legal before there leaving =
-    let same : r ≡ c.session = leaves_next past (owed scripts past) (Refuse r cause) c.session legal.0.follows leaving in
-    by_xact (xact_of past c.session) refl (waiting_open scripts past legal.1 c before) same where
+leaves_on : (terms : Terms) (past : Past) (e : Entry) (c : Claim) → Legal terms (e ∷ past) → is_held (waiting past) c ≡ true → is_held (waiting (e ∷ past)) c ≡ true → IsLeaving past (owed terms past) c.session → IsLeaving (e ∷ past) (owed terms (e ∷ past)) c.session
+leaves_on terms past (Lock x table mode) c legal before there leaving = leaving
+leaves_on terms past (Refuse r cause) c legal before there leaving =
+    let same : r ≡ c.session = leaves_next past (owed terms past) (Refuse r cause) c.session legal.0.follows leaving in
+    by_xact (xact_of past c.session) refl (waiting_open terms past legal.1 c before) same where
       by_xact : (o : Option ℕ) → xact_of past c.session ≡ o → is_some o ≡ true → r ≡ c.session → IsLeaving (Refuse r cause ∷ past) (Some (abort_or_end (xact_of past r) r)) c.session
       by_xact None is some same = absurd cc
-      by_xact (Some x) is some same = rw (same, is) (xact_is scripts past c.session x legal.1 is).own
-leaves_on scripts past (Abort x) c legal before there leaving =
-    let same : session_of past x ≡ c.session = leaves_next past (owed scripts past) (Abort x) c.session legal.0.follows leaving in
+      by_xact (Some x) is some same = rw (same, is) (xact_is terms past c.session x legal.1 is).own
+leaves_on terms past (Abort x) c legal before there leaving =
+    let same : session_of past x ≡ c.session = leaves_next past (owed terms past) (Abort x) c.session legal.0.follows leaving in
     let other : (c.session == session_of past x) ≡ false = (held_left (session_of past x) (waiting past) c there).1 in
     let yes : (c.session == session_of past x) ≡ true = eq-eqb c.session (session_of past x) (sym same) in
     absurd cc
-leaves_on scripts past e c legal before there leaving = absurd (leaves_next past (owed scripts past) e c.session legal.0.follows leaving)
+leaves_on terms past e c legal before there leaving = absurd (leaves_next past (owed terms past) e c.session legal.0.follows leaving)
 
 -- ---- entries of others
 
 -- what stays as it was leaves the session waiting
-awaits_on : (scripts : Scripts) (past after : Past) (c : Claim) → (a : IsAwaiting scripts past c) → xact_of after c.session ≡ xact_of past c.session → wanted_by after c.session ≡ wanted_by past c.session → look_of after c.session ≡ look_of past c.session → in_hand scripts after c.session ≡ in_hand scripts past c.session → IsFound (latest scripts after a.x) a.name a.t ⊥ → is_held (held after) c ≡ false → IsAwaiting scripts after c
-awaits_on scripts past after c a xact wanted look statement found absent = record {
+awaits_on : (terms : Terms) (past after : Past) (c : Claim) → (a : IsAwaiting terms past c) → xact_of after c.session ≡ xact_of past c.session → wanted_by after c.session ≡ wanted_by past c.session → look_of after c.session ≡ look_of past c.session → in_hand terms after c.session ≡ in_hand terms past c.session → IsFound (latest terms after a.x) a.name a.t ⊥ → is_held (held after) c ≡ false → IsAwaiting terms after c
+awaits_on terms past after c a xact wanted look statement found absent = record {
   x = a.x;
   own = xact ∙ a.own;
   wanted = wanted ∙ a.wanted;
@@ -96,9 +96,9 @@ awaits_on scripts past after c a xact wanted look statement found absent = recor
 }
 
 -- an entry of another session is of another transaction
-not_its : (scripts : Scripts) (past : Past) (s y : ℕ) → Legal scripts past → (session_of past y == s) ≡ false → is_that (xact_of past s) y ≡ false
-not_its scripts past s y legal other = false_from_ne_true (is_that (xact_of past s) y) (λ its.
-    let own : session_of past y ≡ s = (xact_is scripts past s y legal (is_that_so (xact_of past s) y its)).own in
+not_its : (terms : Terms) (past : Past) (s y : ℕ) → Legal terms past → (session_of past y == s) ≡ false → is_that (xact_of past s) y ≡ false
+not_its terms past s y legal other = false_from_ne_true (is_that (xact_of past s) y) (λ its.
+    let own : session_of past y ≡ s = (xact_is terms past s y legal (is_that_so (xact_of past s) y its)).own in
     let yes : (session_of past y == s) ≡ true = eq-eqb (session_of past y) s own in
     absurd cc)
 
@@ -112,8 +112,8 @@ not_got claims c d absent other = false_from_ne_true (is_held (claims ++ d ∷ [
 not_left : (s : ℕ) (claims : List Claim) (c : Claim) → is_held claims c ≡ false → is_held (without s claims) c ≡ false
 not_left s claims c absent = false_from_ne_true (is_held (without s claims) c) (λ there. let before : is_held claims c ≡ true = (held_left s claims c there).0 in absurd cc)
 
-found_still : (scripts : Scripts) (past : Past) (e : Entry) (c : Claim) → (a : IsAwaiting scripts past c) → Legal scripts (e ∷ past) → xact_of (e ∷ past) c.session ≡ Some a.x → IsFound (latest scripts (e ∷ past) a.x) a.name a.t ⊥
-found_still scripts past e c a legal later = still_found scripts past e c.session a.x a.name a.t legal (locks_suffice scripts (e ∷ past) legal) a.own later a.found
+found_still : (terms : Terms) (past : Past) (e : Entry) (c : Claim) → (a : IsAwaiting terms past c) → Legal terms (e ∷ past) → xact_of (e ∷ past) c.session ≡ Some a.x → IsFound (latest terms (e ∷ past) a.x) a.name a.t ⊥
+found_still terms past e c a legal later = still_found terms past e c.session a.x a.name a.t legal (locks_suffice terms (e ∷ past) legal) a.own later a.found
 
 -- ---- entries of the session itself
 
@@ -123,8 +123,8 @@ none_answers statements.Begin name x state reply uses answers = absurd cc
 none_answers statement name x state reply uses answers = answers
 
 -- nobody waits again who waits already
-pub waits_once : (scripts : Scripts) (past : Past) (c : Claim) → is_settled past ≡ true → is_held (waiting past) c ≡ true → IsAwaiting scripts past c → can_go_on past c.session ≡ true → ⊥
-waits_once scripts past c settled there a can =
+pub waits_once : (terms : Terms) (past : Past) (c : Claim) → is_settled past ≡ true → is_held (waiting past) c ≡ true → IsAwaiting terms past c → can_go_on past c.session ≡ true → ⊥
+waits_once terms past c settled there a can =
     let parts = and_parts (is_some (hand past c.session)) (not (holds_up past c.session (wanted_by past c.session))) can in
     let free : not (not (grantable past c)) ≡ true = rw a.wanted at parts.1 in
     let yes : grantable past c ≡ true = not-false (grantable past c) (not-true (not (grantable past c)) free) in
@@ -132,11 +132,11 @@ waits_once scripts past c settled there a can =
     absurd cc
 
 -- nothing has its place that lacks its lock
-no_look : (scripts : Scripts) (past : Past) (c : Claim) (y : ℕ) → IsAwaiting scripts past c → session_of past y ≡ c.session → xact_of past (session_of past y) ≡ Some y → lacking scripts past y ≡ None → ⊥
-no_look scripts past c y a session own none =
+pub no_look : (terms : Terms) (past : Past) (c : Claim) (y : ℕ) → IsAwaiting terms past c → session_of past y ≡ c.session → xact_of past (session_of past y) ≡ Some y → lacking terms past y ≡ None → ⊥
+no_look terms past c y a session own none =
     let its : xact_of past c.session ≡ Some y = rw session at own in
     let same : a.x ≡ y = of_some a.x y (sym a.own ∙ its) in
-    let lock : is_held (held past) (record { session = session_of past y; table = a.t.number; mode = needed_mode a.statement }) ≡ true = lock_held scripts past y a.statement a.name a.t none (rw session a.is) a.uses (rw same at a.found) in
+    let lock : is_held (held past) (record { session = session_of past y; table = a.t.number; mode = needed_mode a.statement }) ≡ true = lock_held terms past y a.statement a.name a.t none (rw session a.is) a.uses (rw same at a.found) in
     let yes : is_held (held past) c ≡ true = rw a.claimed (rw session at lock) in
     let no : is_held (held past) c ≡ false = a.absent in
     absurd cc where
@@ -144,96 +144,96 @@ no_look scripts past c y a session own none =
       of_some n m e = cc
 
 -- nothing acts that hasn't looked
-no_act : (scripts : Scripts) (past : Past) (c : Claim) (y : ℕ) → IsAwaiting scripts past c → session_of past y ≡ c.session → ActRule scripts past y → ⊥
-no_act scripts past c y a session act =
+pub no_act : (terms : Terms) (past : Past) (c : Claim) (y : ℕ) → IsAwaiting terms past c → session_of past y ≡ c.session → ActRule terms past y → ⊥
+no_act terms past c y a session act =
     let there : is_some (look_of past c.session) ≡ true = rw session at act.looked in
     let no : is_some {T = Past} None ≡ true = rw a.before_look at there in
     absurd cc
 
-no_done : (scripts : Scripts) (past : Past) (c : Claim) (reply : Reply) → Legal scripts past → IsAwaiting scripts past c → Answers (in_hand scripts past c.session) (acts_of past c.session) (xact_of past c.session) (block_state past c.session) reply → ⊥
-no_done scripts past c reply legal a answers = none_answers a.statement a.name a.x (block_state past c.session) reply a.uses (rw (a.is, none_done scripts past c.session legal a.before_look, a.own) at answers)
+no_done : (terms : Terms) (past : Past) (c : Claim) (reply : Reply) → Legal terms past → IsAwaiting terms past c → Answers (in_hand terms past c.session) (acts_of past c.session) (xact_of past c.session) (block_state past c.session) reply → ⊥
+no_done terms past c reply legal a answers = none_answers a.statement a.name a.x (block_state past c.session) reply a.uses (rw (a.is, none_done terms past c.session legal a.before_look, a.own) at answers)
 
-no_end : (scripts : Scripts) (past : Past) (c : Claim) → Legal scripts past → IsAwaiting scripts past c → Follows (owed scripts past) (End c.session) → (in_hand scripts past c.session ≡ None) ⊎ (refused past c.session ≡ true) → ⊥
-no_end scripts past c legal a follows (inl none) = let is : in_hand scripts past c.session ≡ Some a.statement = a.is in absurd cc
-no_end scripts past c legal a follows (inr was) =
-    let i : IsInStep past c.session = in_step scripts past c.session a.statement a.is in
-    let next : End c.session ≡ abort_or_end (xact_of past c.session) c.session = ends_next (owed scripts past) (End c.session) (xact_of past c.session) c.session follows (refused_owes scripts past c.session i.block legal was i.step) in
+no_end : (terms : Terms) (past : Past) (c : Claim) → Legal terms past → IsAwaiting terms past c → Follows (owed terms past) (End c.session) → (in_hand terms past c.session ≡ None) ⊎ (refused past c.session ≡ true) → ⊥
+no_end terms past c legal a follows (inl none) = let is : in_hand terms past c.session ≡ Some a.statement = a.is in absurd cc
+no_end terms past c legal a follows (inr was) =
+    let i : IsInStep past c.session = in_step terms past c.session a.statement a.is in
+    let next : End c.session ≡ abort_or_end (xact_of past c.session) c.session = ends_next (owed terms past) (End c.session) (xact_of past c.session) c.session follows (refused_owes terms past c.session i.block legal was i.step) in
     let other : ◌≡◌ {A = Entry} (End c.session) (Abort a.x) = rw a.own at next in
     absurd cc
 
 -- ---- each entry
 
 -- a session that waits goes on waiting, or leaves
-awaits_step : (scripts : Scripts) (past : Past) (e : Entry) (c : Claim) → Legal scripts (e ∷ past) → is_held (waiting past) c ≡ true → is_held (waiting (e ∷ past)) c ≡ true → IsAwaiting scripts past c → IsAwaiting scripts (e ∷ past) c ⊎ IsLeaving (e ∷ past) (owed scripts (e ∷ past)) c.session
-awaits_step scripts past (Give r block) c legal before there a = by_test (r == c.session) refl where
-  by_test : (b : Bool) → (r == c.session) ≡ b → IsAwaiting scripts (Give r block ∷ past) c ⊎ IsLeaving (Give r block ∷ past) (owed scripts (Give r block ∷ past)) c.session
-  by_test true same = let its : r ≡ c.session = eqb-true _ _ same in let i : IsInStep past c.session = in_step scripts past c.session a.statement a.is in let idle : hand past c.session ≡ None = rw its at legal.0.rule.idle in let step : hand past c.session ≡ Some i.block = i.step in absurd cc
-  by_test false other = inl (awaits_on scripts past (Give r block ∷ past) c a refl (rw other refl) (rw other refl) (rw other refl) (found_still scripts past (Give r block) c a legal a.own) a.absent)
-awaits_step scripts past (Start r level) c legal before there a = by_test (r == c.session) refl where
-  by_test : (b : Bool) → (r == c.session) ≡ b → IsAwaiting scripts (Start r level ∷ past) c ⊎ IsLeaving (Start r level ∷ past) (owed scripts (Start r level ∷ past)) c.session
+awaits_step : (terms : Terms) (past : Past) (e : Entry) (c : Claim) → Legal terms (e ∷ past) → is_held (waiting past) c ≡ true → is_held (waiting (e ∷ past)) c ≡ true → IsAwaiting terms past c → IsAwaiting terms (e ∷ past) c ⊎ IsLeaving (e ∷ past) (owed terms (e ∷ past)) c.session
+awaits_step terms past (Give r block) c legal before there a = by_test (r == c.session) refl where
+  by_test : (b : Bool) → (r == c.session) ≡ b → IsAwaiting terms (Give r block ∷ past) c ⊎ IsLeaving (Give r block ∷ past) (owed terms (Give r block ∷ past)) c.session
+  by_test true same = let its : r ≡ c.session = eqb-true _ _ same in let i : IsInStep past c.session = in_step terms past c.session a.statement a.is in let idle : hand past c.session ≡ None = rw its at legal.0.rule.idle in let step : hand past c.session ≡ Some i.block = i.step in absurd cc
+  by_test false other = inl (awaits_on terms past (Give r block ∷ past) c a refl (rw other refl) (rw other refl) (rw other refl) (found_still terms past (Give r block) c a legal a.own) a.absent)
+awaits_step terms past (Start r level) c legal before there a = by_test (r == c.session) refl where
+  by_test : (b : Bool) → (r == c.session) ≡ b → IsAwaiting terms (Start r level ∷ past) c ⊎ IsLeaving (Start r level ∷ past) (owed terms (Start r level ∷ past)) c.session
   by_test true same = let its : r ≡ c.session = eqb-true _ _ same in let none : xact_of past c.session ≡ None = rw its at legal.0.rule.none_open in let own : xact_of past c.session ≡ Some a.x = a.own in absurd cc
-  by_test false other = inl (awaits_on scripts past (Start r level ∷ past) c a (rw other refl) (rw other refl) refl refl (found_still scripts past (Start r level) c a legal (rw other a.own)) a.absent)
-awaits_step scripts past (Wait y want) c legal before there a = by_test (session_of past y == c.session) refl where
-  by_test : (b : Bool) → (session_of past y == c.session) ≡ b → IsAwaiting scripts (Wait y want ∷ past) c ⊎ IsLeaving (Wait y want ∷ past) (owed scripts (Wait y want ∷ past)) c.session
-  by_test true same = let its : session_of past y ≡ c.session = eqb-true _ _ same in absurd (waits_once scripts past c legal.0.settled before a (rw its at legal.0.rule.in_step))
-  by_test false other = inl (awaits_on scripts past (Wait y want ∷ past) c a refl (rw other refl) refl refl (found_still scripts past (Wait y want) c a legal a.own) a.absent)
-awaits_step scripts past (Lock y table mode) c legal before there a =
+  by_test false other = inl (awaits_on terms past (Start r level ∷ past) c a (rw other refl) (rw other refl) refl refl (found_still terms past (Start r level) c a legal (rw other a.own)) a.absent)
+awaits_step terms past (Wait y want) c legal before there a = by_test (session_of past y == c.session) refl where
+  by_test : (b : Bool) → (session_of past y == c.session) ≡ b → IsAwaiting terms (Wait y want ∷ past) c ⊎ IsLeaving (Wait y want ∷ past) (owed terms (Wait y want ∷ past)) c.session
+  by_test true same = let its : session_of past y ≡ c.session = eqb-true _ _ same in absurd (waits_once terms past c legal.0.settled before a (rw its at legal.0.rule.in_step))
+  by_test false other = inl (awaits_on terms past (Wait y want ∷ past) c a refl (rw other refl) refl refl (found_still terms past (Wait y want) c a legal a.own) a.absent)
+awaits_step terms past (Lock y table mode) c legal before there a =
     let apart : (c.session == session_of past y) ≡ false = (held_left (session_of past y) (waiting past) c there).1 in
     let other : (session_of past y == c.session) ≡ false = turn c.session (session_of past y) apart in
-    inl (awaits_on scripts past (Lock y table mode ∷ past) c a refl (rw other refl) refl refl (found_still scripts past (Lock y table mode) c a legal a.own) (not_got (held past) c (claim past y table mode) a.absent apart))
-awaits_step scripts past (Look y) c legal before there a = by_test (session_of past y == c.session) refl where
-  by_test : (b : Bool) → (session_of past y == c.session) ≡ b → IsAwaiting scripts (Look y ∷ past) c ⊎ IsLeaving (Look y ∷ past) (owed scripts (Look y ∷ past)) c.session
-  by_test true same = let its : session_of past y ≡ c.session = eqb-true _ _ same in absurd (no_look scripts past c y a its legal.0.rule.open_xact legal.0.rule.locked)
-  by_test false other = inl (awaits_on scripts past (Look y ∷ past) c a refl (rw other refl) (rw (not_its scripts past c.session y legal.1 other) refl) refl (found_still scripts past (Look y) c a legal a.own) a.absent)
-awaits_step scripts past (Make y table name shape) c legal before there a = by_test (session_of past y == c.session) refl where
-  by_test : (b : Bool) → (session_of past y == c.session) ≡ b → IsAwaiting scripts (Make y table name shape ∷ past) c ⊎ IsLeaving (Make y table name shape ∷ past) (owed scripts (Make y table name shape ∷ past)) c.session
-  by_test true same = let its : session_of past y ≡ c.session = eqb-true _ _ same in absurd (no_act scripts past c y a its legal.0.rule.act)
-  by_test false other = inl (awaits_on scripts past (Make y table name shape ∷ past) c a refl (rw other refl) refl refl (found_still scripts past (Make y table name shape) c a legal a.own) a.absent)
-awaits_step scripts past (Add y table row) c legal before there a = by_test (session_of past y == c.session) refl where
-  by_test : (b : Bool) → (session_of past y == c.session) ≡ b → IsAwaiting scripts (Add y table row ∷ past) c ⊎ IsLeaving (Add y table row ∷ past) (owed scripts (Add y table row ∷ past)) c.session
-  by_test true same = let its : session_of past y ≡ c.session = eqb-true _ _ same in absurd (no_act scripts past c y a its legal.0.rule.act)
-  by_test false other = inl (awaits_on scripts past (Add y table row ∷ past) c a refl (rw other refl) refl refl (found_still scripts past (Add y table row) c a legal a.own) a.absent)
-awaits_step scripts past (Read y names rows) c legal before there a = by_test (session_of past y == c.session) refl where
-  by_test : (b : Bool) → (session_of past y == c.session) ≡ b → IsAwaiting scripts (Read y names rows ∷ past) c ⊎ IsLeaving (Read y names rows ∷ past) (owed scripts (Read y names rows ∷ past)) c.session
-  by_test true same = let its : session_of past y ≡ c.session = eqb-true _ _ same in absurd (no_act scripts past c y a its legal.0.rule.act)
-  by_test false other = inl (awaits_on scripts past (Read y names rows ∷ past) c a refl (rw other refl) refl refl (found_still scripts past (Read y names rows) c a legal a.own) a.absent)
-awaits_step scripts past (Alter y table statement rewritten) c legal before there a = by_test (session_of past y == c.session) refl where
-  by_test : (b : Bool) → (session_of past y == c.session) ≡ b → IsAwaiting scripts (Alter y table statement rewritten ∷ past) c ⊎ IsLeaving (Alter y table statement rewritten ∷ past) (owed scripts (Alter y table statement rewritten ∷ past)) c.session
-  by_test true same = let its : session_of past y ≡ c.session = eqb-true _ _ same in absurd (no_act scripts past c y a its legal.0.rule.act)
-  by_test false other = inl (awaits_on scripts past (Alter y table statement rewritten ∷ past) c a refl (rw other refl) refl refl (found_still scripts past (Alter y table statement rewritten) c a legal a.own) a.absent)
-awaits_step scripts past (Done r reply) c legal before there a = by_test (r == c.session) refl where
-  by_test : (b : Bool) → (r == c.session) ≡ b → IsAwaiting scripts (Done r reply ∷ past) c ⊎ IsLeaving (Done r reply ∷ past) (owed scripts (Done r reply ∷ past)) c.session
-  by_test true same = let its : r ≡ c.session = eqb-true _ _ same in absurd (no_done scripts past c reply legal.1 a (rw its at legal.0.rule.answers))
-  by_test false other = inl (awaits_on scripts past (Done r reply ∷ past) c a refl (rw other refl) (rw other refl) (rw other refl) (found_still scripts past (Done r reply) c a legal a.own) a.absent)
-awaits_step scripts past (Refuse r cause) c legal before there a = by_test (r == c.session) refl where
-  by_test : (b : Bool) → (r == c.session) ≡ b → IsAwaiting scripts (Refuse r cause ∷ past) c ⊎ IsLeaving (Refuse r cause ∷ past) (owed scripts (Refuse r cause ∷ past)) c.session
-  by_test true same = let its : r ≡ c.session = eqb-true _ _ same in inr (rw (its, a.own) (xact_is scripts past c.session a.x legal.1 a.own).own)
-  by_test false other = inl (awaits_on scripts past (Refuse r cause ∷ past) c a refl (rw other refl) refl refl (found_still scripts past (Refuse r cause) c a legal a.own) a.absent)
-awaits_step scripts past (Commit y) c legal before there a =
+    inl (awaits_on terms past (Lock y table mode ∷ past) c a refl (rw other refl) refl refl (found_still terms past (Lock y table mode) c a legal a.own) (not_got (held past) c (claim past y table mode) a.absent apart))
+awaits_step terms past (Look y) c legal before there a = by_test (session_of past y == c.session) refl where
+  by_test : (b : Bool) → (session_of past y == c.session) ≡ b → IsAwaiting terms (Look y ∷ past) c ⊎ IsLeaving (Look y ∷ past) (owed terms (Look y ∷ past)) c.session
+  by_test true same = let its : session_of past y ≡ c.session = eqb-true _ _ same in absurd (no_look terms past c y a its legal.0.rule.open_xact legal.0.rule.locked)
+  by_test false other = inl (awaits_on terms past (Look y ∷ past) c a refl (rw other refl) (rw (not_its terms past c.session y legal.1 other) refl) refl (found_still terms past (Look y) c a legal a.own) a.absent)
+awaits_step terms past (Make y table name shape) c legal before there a = by_test (session_of past y == c.session) refl where
+  by_test : (b : Bool) → (session_of past y == c.session) ≡ b → IsAwaiting terms (Make y table name shape ∷ past) c ⊎ IsLeaving (Make y table name shape ∷ past) (owed terms (Make y table name shape ∷ past)) c.session
+  by_test true same = let its : session_of past y ≡ c.session = eqb-true _ _ same in absurd (no_act terms past c y a its legal.0.rule.act)
+  by_test false other = inl (awaits_on terms past (Make y table name shape ∷ past) c a refl (rw other refl) refl refl (found_still terms past (Make y table name shape) c a legal a.own) a.absent)
+awaits_step terms past (Add y table row) c legal before there a = by_test (session_of past y == c.session) refl where
+  by_test : (b : Bool) → (session_of past y == c.session) ≡ b → IsAwaiting terms (Add y table row ∷ past) c ⊎ IsLeaving (Add y table row ∷ past) (owed terms (Add y table row ∷ past)) c.session
+  by_test true same = let its : session_of past y ≡ c.session = eqb-true _ _ same in absurd (no_act terms past c y a its legal.0.rule.act)
+  by_test false other = inl (awaits_on terms past (Add y table row ∷ past) c a refl (rw other refl) refl refl (found_still terms past (Add y table row) c a legal a.own) a.absent)
+awaits_step terms past (Read y names rows) c legal before there a = by_test (session_of past y == c.session) refl where
+  by_test : (b : Bool) → (session_of past y == c.session) ≡ b → IsAwaiting terms (Read y names rows ∷ past) c ⊎ IsLeaving (Read y names rows ∷ past) (owed terms (Read y names rows ∷ past)) c.session
+  by_test true same = let its : session_of past y ≡ c.session = eqb-true _ _ same in absurd (no_act terms past c y a its legal.0.rule.act)
+  by_test false other = inl (awaits_on terms past (Read y names rows ∷ past) c a refl (rw other refl) refl refl (found_still terms past (Read y names rows) c a legal a.own) a.absent)
+awaits_step terms past (Alter y table statement rewritten) c legal before there a = by_test (session_of past y == c.session) refl where
+  by_test : (b : Bool) → (session_of past y == c.session) ≡ b → IsAwaiting terms (Alter y table statement rewritten ∷ past) c ⊎ IsLeaving (Alter y table statement rewritten ∷ past) (owed terms (Alter y table statement rewritten ∷ past)) c.session
+  by_test true same = let its : session_of past y ≡ c.session = eqb-true _ _ same in absurd (no_act terms past c y a its legal.0.rule.act)
+  by_test false other = inl (awaits_on terms past (Alter y table statement rewritten ∷ past) c a refl (rw other refl) refl refl (found_still terms past (Alter y table statement rewritten) c a legal a.own) a.absent)
+awaits_step terms past (Done r reply) c legal before there a = by_test (r == c.session) refl where
+  by_test : (b : Bool) → (r == c.session) ≡ b → IsAwaiting terms (Done r reply ∷ past) c ⊎ IsLeaving (Done r reply ∷ past) (owed terms (Done r reply ∷ past)) c.session
+  by_test true same = let its : r ≡ c.session = eqb-true _ _ same in absurd (no_done terms past c reply legal.1 a (rw its at legal.0.rule.answers))
+  by_test false other = inl (awaits_on terms past (Done r reply ∷ past) c a refl (rw other refl) (rw other refl) (rw other refl) (found_still terms past (Done r reply) c a legal a.own) a.absent)
+awaits_step terms past (Refuse r cause) c legal before there a = by_test (r == c.session) refl where
+  by_test : (b : Bool) → (r == c.session) ≡ b → IsAwaiting terms (Refuse r cause ∷ past) c ⊎ IsLeaving (Refuse r cause ∷ past) (owed terms (Refuse r cause ∷ past)) c.session
+  by_test true same = let its : r ≡ c.session = eqb-true _ _ same in inr (rw (its, a.own) (xact_is terms past c.session a.x legal.1 a.own).own)
+  by_test false other = inl (awaits_on terms past (Refuse r cause ∷ past) c a refl (rw other refl) refl refl (found_still terms past (Refuse r cause) c a legal a.own) a.absent)
+awaits_step terms past (Commit y) c legal before there a =
     let apart : (c.session == session_of past y) ≡ false = (held_left (session_of past y) (waiting past) c there).1 in
     let other : (session_of past y == c.session) ≡ false = turn c.session (session_of past y) apart in
-    inl (awaits_on scripts past (Commit y ∷ past) c a (rw (not_its scripts past c.session y legal.1 other) refl) (rw other refl) refl refl (found_still scripts past (Commit y) c a legal (rw (not_its scripts past c.session y legal.1 other) a.own)) (not_left (session_of past y) (held past) c a.absent))
-awaits_step scripts past (Abort y) c legal before there a =
+    inl (awaits_on terms past (Commit y ∷ past) c a (rw (not_its terms past c.session y legal.1 other) refl) (rw other refl) refl refl (found_still terms past (Commit y) c a legal (rw (not_its terms past c.session y legal.1 other) a.own)) (not_left (session_of past y) (held past) c a.absent))
+awaits_step terms past (Abort y) c legal before there a =
     let apart : (c.session == session_of past y) ≡ false = (held_left (session_of past y) (waiting past) c there).1 in
     let other : (session_of past y == c.session) ≡ false = turn c.session (session_of past y) apart in
-    inl (awaits_on scripts past (Abort y ∷ past) c a (rw (not_its scripts past c.session y legal.1 other) refl) (rw other refl) refl refl (found_still scripts past (Abort y) c a legal (rw (not_its scripts past c.session y legal.1 other) a.own)) (not_left (session_of past y) (held past) c a.absent))
-awaits_step scripts past (Cancel r) c legal before there a = by_test (r == c.session) refl where
-  by_test : (b : Bool) → (r == c.session) ≡ b → IsAwaiting scripts (Cancel r ∷ past) c ⊎ IsLeaving (Cancel r ∷ past) (owed scripts (Cancel r ∷ past)) c.session
+    inl (awaits_on terms past (Abort y ∷ past) c a (rw (not_its terms past c.session y legal.1 other) refl) (rw other refl) refl refl (found_still terms past (Abort y) c a legal (rw (not_its terms past c.session y legal.1 other) a.own)) (not_left (session_of past y) (held past) c a.absent))
+awaits_step terms past (Cancel r) c legal before there a = by_test (r == c.session) refl where
+  by_test : (b : Bool) → (r == c.session) ≡ b → IsAwaiting terms (Cancel r ∷ past) c ⊎ IsLeaving (Cancel r ∷ past) (owed terms (Cancel r ∷ past)) c.session
   by_test true same = let its : r ≡ c.session = eqb-true _ _ same in inr its
-  by_test false other = inl (awaits_on scripts past (Cancel r ∷ past) c a refl (rw other refl) refl refl (found_still scripts past (Cancel r) c a legal a.own) a.absent)
-awaits_step scripts past (End r) c legal before there a = by_test (r == c.session) refl where
-  by_test : (b : Bool) → (r == c.session) ≡ b → IsAwaiting scripts (End r ∷ past) c ⊎ IsLeaving (End r ∷ past) (owed scripts (End r ∷ past)) c.session
-  by_test true same = let its : r ≡ c.session = eqb-true _ _ same in absurd (no_end scripts past c legal.1 a (rw its at legal.0.follows) (rw its at legal.0.rule.over))
-  by_test false other = inl (awaits_on scripts past (End r ∷ past) c a refl (rw other refl) refl (rw other refl) (found_still scripts past (End r) c a legal a.own) a.absent)
-awaits_step scripts past (Close r) c legal before there a = by_test (r == c.session) refl where
-  by_test : (b : Bool) → (r == c.session) ≡ b → IsAwaiting scripts (Close r ∷ past) c ⊎ IsLeaving (Close r ∷ past) (owed scripts (Close r ∷ past)) c.session
+  by_test false other = inl (awaits_on terms past (Cancel r ∷ past) c a refl (rw other refl) refl refl (found_still terms past (Cancel r) c a legal a.own) a.absent)
+awaits_step terms past (End r) c legal before there a = by_test (r == c.session) refl where
+  by_test : (b : Bool) → (r == c.session) ≡ b → IsAwaiting terms (End r ∷ past) c ⊎ IsLeaving (End r ∷ past) (owed terms (End r ∷ past)) c.session
+  by_test true same = let its : r ≡ c.session = eqb-true _ _ same in absurd (no_end terms past c legal.1 a (rw its at legal.0.follows) (rw its at legal.0.rule.over))
+  by_test false other = inl (awaits_on terms past (End r ∷ past) c a refl (rw other refl) refl (rw other refl) (found_still terms past (End r) c a legal a.own) a.absent)
+awaits_step terms past (Close r) c legal before there a = by_test (r == c.session) refl where
+  by_test : (b : Bool) → (r == c.session) ≡ b → IsAwaiting terms (Close r ∷ past) c ⊎ IsLeaving (Close r ∷ past) (owed terms (Close r ∷ past)) c.session
   by_test true same = let its : r ≡ c.session = eqb-true _ _ same in let none : xact_of past c.session ≡ None = rw its at legal.0.rule.none_open in let own : xact_of past c.session ≡ Some a.x = a.own in absurd cc
-  by_test false other = inl (awaits_on scripts past (Close r ∷ past) c a refl (rw other refl) refl refl (found_still scripts past (Close r) c a legal a.own) a.absent)
+  by_test false other = inl (awaits_on terms past (Close r ∷ past) c a refl (rw other refl) refl refl (found_still terms past (Close r) c a legal a.own) a.absent)
 
 -- the session of a new request waits
-awaits_new : (scripts : Scripts) (past : Past) (y table : ℕ) (mode : Mode) → Legal scripts (Wait y (wants.Table table mode) ∷ past) → IsAwaiting scripts (Wait y (wants.Table table mode) ∷ past) (claim past y table mode)
-awaits_new scripts past y table mode legal =
-    let l : LacksInHand scripts past y (claim past y table mode) = lacks_in_hand scripts past y (claim past y table mode) legal.0.rule.waits_for.1 in
+awaits_new : (terms : Terms) (past : Past) (y table : ℕ) (mode : Mode) → Legal terms (Wait y (wants.Table table mode) ∷ past) → IsAwaiting terms (Wait y (wants.Table table mode) ∷ past) (claim past y table mode)
+awaits_new terms past y table mode legal =
+    let l : LacksInHand terms past y (claim past y table mode) = lacks_in_hand terms past y (claim past y table mode) legal.0.rule.waits_for.1 in
     record {
       x = y;
       own = legal.0.rule.open_xact;
@@ -249,28 +249,28 @@ awaits_new scripts past y table mode legal =
       absent = l.lacks.absent;
     }
 
-awaits_go : (scripts : Scripts) (past : Past) (e : Entry) (c : Claim) → Legal scripts (e ∷ past) → is_held (waiting past) c ≡ true → is_held (waiting (e ∷ past)) c ≡ true → IsAwaiting scripts past c ⊎ IsLeaving past (owed scripts past) c.session → IsAwaiting scripts (e ∷ past) c ⊎ IsLeaving (e ∷ past) (owed scripts (e ∷ past)) c.session
-awaits_go scripts past e c legal before there (inl a) = awaits_step scripts past e c legal before there a
-awaits_go scripts past e c legal before there (inr leaving) = inr (leaves_on scripts past e c legal before there leaving)
+awaits_go : (terms : Terms) (past : Past) (e : Entry) (c : Claim) → Legal terms (e ∷ past) → is_held (waiting past) c ≡ true → is_held (waiting (e ∷ past)) c ≡ true → IsAwaiting terms past c ⊎ IsLeaving past (owed terms past) c.session → IsAwaiting terms (e ∷ past) c ⊎ IsLeaving (e ∷ past) (owed terms (e ∷ past)) c.session
+awaits_go terms past e c legal before there (inl a) = awaits_step terms past e c legal before there a
+awaits_go terms past e c legal before there (inr leaving) = inr (leaves_on terms past e c legal before there leaving)
 
 -- the session of a request waits for it, or leaves
-pub awaiting : (scripts : Scripts) (past : Past) → Legal scripts past → (c : Claim) → is_held (waiting past) c ≡ true → IsAwaiting scripts past c ⊎ IsLeaving past (owed scripts past) c.session
-awaiting scripts [] legal c there = absurd cc
-awaiting scripts (Wait y (wants.Table table mode) ∷ past) legal c there = by_case (held_push (waiting past) c (claim past y table mode) there) (λ before. awaits_go scripts past (Wait y (wants.Table table mode)) c legal before there (awaiting scripts past legal.1 c before)) where
-  by_case : (is_held (waiting past) c ≡ true) ⊎ (claim past y table mode ≡ c) → (is_held (waiting past) c ≡ true → IsAwaiting scripts (Wait y (wants.Table table mode) ∷ past) c ⊎ IsLeaving (Wait y (wants.Table table mode) ∷ past) (owed scripts (Wait y (wants.Table table mode) ∷ past)) c.session) → IsAwaiting scripts (Wait y (wants.Table table mode) ∷ past) c ⊎ IsLeaving (Wait y (wants.Table table mode) ∷ past) (owed scripts (Wait y (wants.Table table mode) ∷ past)) c.session
+pub awaiting : (terms : Terms) (past : Past) → Legal terms past → (c : Claim) → is_held (waiting past) c ≡ true → IsAwaiting terms past c ⊎ IsLeaving past (owed terms past) c.session
+awaiting terms [] legal c there = absurd cc
+awaiting terms (Wait y (wants.Table table mode) ∷ past) legal c there = by_case (held_push (waiting past) c (claim past y table mode) there) (λ before. awaits_go terms past (Wait y (wants.Table table mode)) c legal before there (awaiting terms past legal.1 c before)) where
+  by_case : (is_held (waiting past) c ≡ true) ⊎ (claim past y table mode ≡ c) → (is_held (waiting past) c ≡ true → IsAwaiting terms (Wait y (wants.Table table mode) ∷ past) c ⊎ IsLeaving (Wait y (wants.Table table mode) ∷ past) (owed terms (Wait y (wants.Table table mode) ∷ past)) c.session) → IsAwaiting terms (Wait y (wants.Table table mode) ∷ past) c ⊎ IsLeaving (Wait y (wants.Table table mode) ∷ past) (owed terms (Wait y (wants.Table table mode) ∷ past)) c.session
   by_case (inl before) more = more before
-  by_case (inr same) more = inl (rw (← same) (awaits_new scripts past y table mode legal))
-awaiting scripts (Wait y (wants.Ends z) ∷ past) legal c there = awaits_go scripts past (Wait y (wants.Ends z)) c legal there there (awaiting scripts past legal.1 c there)
-awaiting scripts (Lock y table mode ∷ past) legal c there =
+  by_case (inr same) more = inl (rw (← same) (awaits_new terms past y table mode legal))
+awaiting terms (Wait y (wants.Ends z) ∷ past) legal c there = awaits_go terms past (Wait y (wants.Ends z)) c legal there there (awaiting terms past legal.1 c there)
+awaiting terms (Lock y table mode ∷ past) legal c there =
     let before : is_held (waiting past) c ≡ true = (held_left (session_of past y) (waiting past) c there).0 in
-    awaits_go scripts past (Lock y table mode) c legal before there (awaiting scripts past legal.1 c before)
-awaiting scripts (Commit y ∷ past) legal c there =
+    awaits_go terms past (Lock y table mode) c legal before there (awaiting terms past legal.1 c before)
+awaiting terms (Commit y ∷ past) legal c there =
     let before : is_held (waiting past) c ≡ true = (held_left (session_of past y) (waiting past) c there).0 in
-    awaits_go scripts past (Commit y) c legal before there (awaiting scripts past legal.1 c before)
-awaiting scripts (Abort y ∷ past) legal c there =
+    awaits_go terms past (Commit y) c legal before there (awaiting terms past legal.1 c before)
+awaiting terms (Abort y ∷ past) legal c there =
     let before : is_held (waiting past) c ≡ true = (held_left (session_of past y) (waiting past) c there).0 in
-    awaits_go scripts past (Abort y) c legal before there (awaiting scripts past legal.1 c before)
-awaiting scripts (e ∷ past) legal c there = awaits_go scripts past e c legal there there (awaiting scripts past legal.1 c there)
+    awaits_go terms past (Abort y) c legal before there (awaiting terms past legal.1 c before)
+awaiting terms (e ∷ past) legal c there = awaits_go terms past e c legal there there (awaiting terms past legal.1 c there)
 
 -- ---- one request
 
@@ -322,20 +322,20 @@ distinct_left r (c ∷ claims) distinct = by_test (c.session == r) (distinct_lef
   by_test false rest = (none_left r claims c.session distinct.0, rest)
 
 -- who begins to wait has no request yet
-pub none_waits : (scripts : Scripts) (past : Past) (y : ℕ) (want : Want) → Legal scripts (Wait y want ∷ past) → has_request (waiting past) (session_of past y) ≡ false
-none_waits scripts past y want legal = false_from_ne_true (has_request (waiting past) (session_of past y)) (λ has.
+pub none_waits : (terms : Terms) (past : Past) (y : ℕ) (want : Want) → Legal terms (Wait y want ∷ past) → has_request (waiting past) (session_of past y) ≡ false
+none_waits terms past y want legal = false_from_ne_true (has_request (waiting past) (session_of past y)) (λ has.
     let r : IsRequest (waiting past) (session_of past y) = request_of (waiting past) (session_of past y) has in
-    by_case r (awaiting scripts past legal.1 r.c r.there)) where
-      by_case : (r : IsRequest (waiting past) (session_of past y)) → IsAwaiting scripts past r.c ⊎ IsLeaving past (owed scripts past) r.c.session → ⊥
-      by_case r (inl a) = waits_once scripts past r.c legal.0.settled r.there a (rw r.own legal.0.rule.in_step)
-      by_case r (inr leaving) = leaves_next past (owed scripts past) (Wait y want) r.c.session legal.0.follows leaving
+    by_case r (awaiting terms past legal.1 r.c r.there)) where
+      by_case : (r : IsRequest (waiting past) (session_of past y)) → IsAwaiting terms past r.c ⊎ IsLeaving past (owed terms past) r.c.session → ⊥
+      by_case r (inl a) = waits_once terms past r.c legal.0.settled r.there a (rw r.own legal.0.rule.in_step)
+      by_case r (inr leaving) = leaves_next past (owed terms past) (Wait y want) r.c.session legal.0.follows leaving
 
 -- a session has one request that waits at most
-pub one_request : (scripts : Scripts) (past : Past) → Legal scripts past → AreDistinct (waiting past)
-one_request scripts [] legal = tt
-one_request scripts (Wait y (wants.Table table mode) ∷ past) legal = distinct_push (waiting past) (claim past y table mode) (one_request scripts past legal.1) (none_waits scripts past y (wants.Table table mode) legal)
-one_request scripts (Wait y (wants.Ends z) ∷ past) legal = one_request scripts past legal.1
-one_request scripts (Lock y table mode ∷ past) legal = distinct_left (session_of past y) (waiting past) (one_request scripts past legal.1)
-one_request scripts (Commit y ∷ past) legal = distinct_left (session_of past y) (waiting past) (one_request scripts past legal.1)
-one_request scripts (Abort y ∷ past) legal = distinct_left (session_of past y) (waiting past) (one_request scripts past legal.1)
-one_request scripts (e ∷ past) legal = one_request scripts past legal.1
+pub one_request : (terms : Terms) (past : Past) → Legal terms past → AreDistinct (waiting past)
+one_request terms [] legal = tt
+one_request terms (Wait y (wants.Table table mode) ∷ past) legal = distinct_push (waiting past) (claim past y table mode) (one_request terms past legal.1) (none_waits terms past y (wants.Table table mode) legal)
+one_request terms (Wait y (wants.Ends z) ∷ past) legal = one_request terms past legal.1
+one_request terms (Lock y table mode ∷ past) legal = distinct_left (session_of past y) (waiting past) (one_request terms past legal.1)
+one_request terms (Commit y ∷ past) legal = distinct_left (session_of past y) (waiting past) (one_request terms past legal.1)
+one_request terms (Abort y ∷ past) legal = distinct_left (session_of past y) (waiting past) (one_request terms past legal.1)
+one_request terms (e ∷ past) legal = one_request terms past legal.1

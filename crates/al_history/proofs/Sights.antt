@@ -3,7 +3,7 @@ use Rattle.std.proofs.Common.{◌≡◌, ℕ, ◌+◌, ◌<◌, ◌≤◌, List,
 use Rattle.std.specs.Prelude.{◌==◌, ◌||◌, is_some}
 use Rattle.std.proofs.lemmas.Bool.{eq-eqb, eqb-true, ne_eqb, or_cases}
 use Rattle.al_modes.specs.declared.mode.Mode.{Mode}
-use Rattle.al_history.specs.declared.statement.Scripts.{Scripts}
+use Rattle.al_history.specs.declared.statement.Terms.{Terms}
 use Rattle.al_history.specs.Past.{Past}
 use Rattle.al_history.specs.Database.{Table, same_name, named}
 use Rattle.al_history.specs.Fate.{Fate, Open, Committed, Aborted, fate}
@@ -108,8 +108,8 @@ seen_own : (past : Past) (f : ℕ → Bool) (x y : ℕ) → f x ≡ true → x �
 seen_own past f x y seen same = rw (← same, eq-eqb x x refl) seen
 
 -- who sees a transaction sees the columns that it sees, in a table that it has locked
-pub agree_locked : (scripts : Scripts) (past : Past) (s x n : ℕ) (mode : Mode) (f : ℕ → Bool) → Legal scripts past → xact_of past s ≡ Some x → fate past x ≡ Open → is_held (held past) (record { session = s; table = n; mode = mode }) ≡ true → CanSee past f → f x ≡ true → EachOf n (λ t. sees past (Some x) t.maker ≡ true → Agree f (sees past (Some x)) t.slots) (store scripts past)
-agree_locked scripts past s x n mode f legal own undecided lock can seen = tables (store scripts past) (makers_began scripts past legal) (slots_owned scripts past legal) where
+pub agree_locked : (terms : Terms) (past : Past) (s x n : ℕ) (mode : Mode) (f : ℕ → Bool) → Legal terms past → xact_of past s ≡ Some x → fate past x ≡ Open → is_held (held past) (record { session = s; table = n; mode = mode }) ≡ true → CanSee past f → f x ≡ true → EachOf n (λ t. sees past (Some x) t.maker ≡ true → Agree f (sees past (Some x)) t.slots) (store terms past)
+agree_locked terms past s x n mode f legal own undecided lock can seen = tables (store terms past) (makers_began terms past legal) (slots_owned terms past legal) where
   of_table : (maker y : ℕ) → sees past (Some x) maker ≡ true → fate past y ≡ Open → y ≡ maker → x ≡ y
   of_table maker y sees_it undecided_y same = by_case (or_cases (x == y) (is_committed (fate past y)) (rw same sees_it)) where
     by_case : ((x == y) ≡ true) ⊎ (is_committed (fate past y) ≡ true) → x ≡ y
@@ -118,8 +118,8 @@ agree_locked scripts past s x n mode f legal own undecided lock can seen = table
 
   of_lock : (y : ℕ) → Began past y → fate past y ≡ Open → is_held (held past) (sole_claim (session_of past y) n) ≡ true → x ≡ y
   of_lock y began undecided_y alone =
-      let same : session_of past y ≡ s = alone_held scripts past legal (sole_claim (session_of past y) n) (record { session = s; table = n; mode = mode }) alone lock refl refl in
-      let its : xact_of past (session_of past y) ≡ Some y = open_own scripts past y legal began undecided_y in
+      let same : session_of past y ≡ s = alone_held terms past legal (sole_claim (session_of past y) n) (record { session = s; table = n; mode = mode }) alone lock refl refl in
+      let its : xact_of past (session_of past y) ≡ Some y = open_own terms past y legal began undecided_y in
       let its_too : xact_of past (session_of past y) ≡ Some x = rw same own in
       cc
 

@@ -9,7 +9,7 @@ use Rattle.al_history.specs.declared.entry.Entry.{Entry}
 use Rattle.al_history.specs.declared.entry.Entry.TheVariants.{Lock, Look, Add, Read, Alter}
 use Rattle.al_history.specs.declared.statement.Statement.{Statement}
 use Rattle.al_history.specs.declared.statement.Statement.TheVariants as statements
-use Rattle.al_history.specs.declared.statement.Scripts.{Scripts}
+use Rattle.al_history.specs.declared.statement.Terms.{Terms}
 use Rattle.al_values.specs.declared.scalar.Value.{Value}
 use Rattle.al_history.specs.Past.{Past}
 use Rattle.al_history.specs.Database.{Table, named}
@@ -45,8 +45,8 @@ user_from None s own = tt
 user_from (Some r) s own = sym (own r refl)
 
 -- who has locked a table may use it
-pub locked_alone : (scripts : Scripts) (past : Past) (s table : ℕ) (mode : Mode) → Legal scripts past → is_held (held past) (record { session = s; table = table; mode = mode }) ≡ true → IsUser (sole_user past table) s
-locked_alone scripts past s table mode legal lock = user_from (sole_user past table) s (λ r is. alone_held scripts past legal (sole_claim r table) (record { session = s; table = table; mode = mode }) (sole_held (held past) table r is) lock refl refl)
+pub locked_alone : (terms : Terms) (past : Past) (s table : ℕ) (mode : Mode) → Legal terms past → is_held (held past) (record { session = s; table = table; mode = mode }) ≡ true → IsUser (sole_user past table) s
+locked_alone terms past s table mode legal lock = user_from (sole_user past table) s (λ r is. alone_held terms past legal (sole_claim r table) (record { session = s; table = table; mode = mode }) (sole_held (held past) table r is) lock refl refl)
 
 -- ---- a Lock
 
@@ -61,63 +61,63 @@ grant_alone past x table mode can = user_from (sole_user past table) (session_of
 
 -- ---- the table of a statement
 
-pub record IsUsing (scripts : Scripts) (past : Past) (x : ℕ) (look : Past) (table : ℕ) : Type 0 where
+pub record IsUsing (terms : Terms) (past : Past) (x : ℕ) (look : Past) (table : ℕ) : Type 0 where
   pub statement : Statement
   pub name : List ℕ
   pub t : Table
-  pub is : in_hand scripts past (session_of past x) ≡ Some statement
+  pub is : in_hand terms past (session_of past x) ≡ Some statement
   pub uses : used_name statement ≡ Some name
-  pub found : named (latest scripts look x) name ≡ Some t
+  pub found : named (latest terms look x) name ≡ Some t
   pub number : t.number ≡ table
 
-pub using : (scripts : Scripts) (past : Past) (x : ℕ) (look : Past) (table : ℕ) → IsNumbered (used_table scripts past x look) table → IsUsing scripts past x look table
-using scripts past x look table uses = by_statement (in_hand scripts past (session_of past x)) refl uses where
-  by_table : (statement : Statement) (name : List ℕ) (o : Option Table) → in_hand scripts past (session_of past x) ≡ Some statement → used_name statement ≡ Some name → named (latest scripts look x) name ≡ o → IsNumbered o table → IsUsing scripts past x look table
+pub using : (terms : Terms) (past : Past) (x : ℕ) (look : Past) (table : ℕ) → IsNumbered (used_table terms past x look) table → IsUsing terms past x look table
+using terms past x look table uses = by_statement (in_hand terms past (session_of past x)) refl uses where
+  by_table : (statement : Statement) (name : List ℕ) (o : Option Table) → in_hand terms past (session_of past x) ≡ Some statement → used_name statement ≡ Some name → named (latest terms look x) name ≡ o → IsNumbered o table → IsUsing terms past x look table
   by_table statement name None is named_so found uses = absurd uses
   by_table statement name (Some t) is named_so found uses = record { statement = statement; name = name; t = t; is = is; uses = named_so; found = found; number = uses }
 
-  by_name : (statement : Statement) (o : Option (List ℕ)) → in_hand scripts past (session_of past x) ≡ Some statement → used_name statement ≡ o → IsNumbered (option_and_then (named (latest scripts look x)) o) table → IsUsing scripts past x look table
+  by_name : (statement : Statement) (o : Option (List ℕ)) → in_hand terms past (session_of past x) ≡ Some statement → used_name statement ≡ o → IsNumbered (option_and_then (named (latest terms look x)) o) table → IsUsing terms past x look table
   by_name statement None is named_so uses = absurd uses
-  by_name statement (Some name) is named_so uses = by_table statement name (named (latest scripts look x) name) is named_so refl uses
+  by_name statement (Some name) is named_so uses = by_table statement name (named (latest terms look x) name) is named_so refl uses
 
-  by_statement : (o : Option Statement) → in_hand scripts past (session_of past x) ≡ o → IsNumbered (option_and_then (named (latest scripts look x)) (option_and_then used_name o)) table → IsUsing scripts past x look table
+  by_statement : (o : Option Statement) → in_hand terms past (session_of past x) ≡ o → IsNumbered (option_and_then (named (latest terms look x)) (option_and_then used_name o)) table → IsUsing terms past x look table
   by_statement None is uses = absurd uses
   by_statement (Some statement) is uses = by_name statement (used_name statement) is refl uses
 
 -- a Look comes where its statement's locks are held
-pub look_alone : (scripts : Scripts) (past : Past) (x : ℕ) → Legal scripts past → lacking scripts past x ≡ None → UsesOwn scripts past x (Some past)
-look_alone scripts past x legal none table uses =
-    let u : IsUsing scripts past x past table = using scripts past x past table uses in
-    locked_alone scripts past (session_of past x) table (needed_mode u.statement) legal (rw u.number at (lock_held scripts past x u.statement u.name u.t none u.is u.uses u.found))
+pub look_alone : (terms : Terms) (past : Past) (x : ℕ) → Legal terms past → lacking terms past x ≡ None → UsesOwn terms past x (Some past)
+look_alone terms past x legal none table uses =
+    let u : IsUsing terms past x past table = using terms past x past table uses in
+    locked_alone terms past (session_of past x) table (needed_mode u.statement) legal (rw u.number at (lock_held terms past x u.statement u.name u.t none u.is u.uses u.found))
 
 -- what a statement used at its Look it has locked still, where its step wasn't refused
-pub act_alone : (scripts : Scripts) (past : Past) (x : ℕ) → Legal scripts past → ((block : ℕ) → hand past (session_of past x) ≡ Some block → refused past (session_of past x) ≡ false) → ActRule scripts past x → UsesOwn scripts past x (look_of past (session_of past x))
-act_alone scripts past x legal kept rule = by_look (look_of past (session_of past x)) refl where
-  by_steady : (look : Past) (table : ℕ) → (u : IsUsing scripts past x look table) → IsSteady scripts past look (session_of past x) x → IsUser (sole_user past table) (session_of past x)
+pub act_alone : (terms : Terms) (past : Past) (x : ℕ) → Legal terms past → ((block : ℕ) → hand past (session_of past x) ≡ Some block → refused past (session_of past x) ≡ false) → ActRule terms past x → UsesOwn terms past x (look_of past (session_of past x))
+act_alone terms past x legal kept rule = by_look (look_of past (session_of past x)) refl where
+  by_steady : (look : Past) (table : ℕ) → (u : IsUsing terms past x look table) → IsSteady terms past look (session_of past x) x → IsUser (sole_user past table) (session_of past x)
   by_steady look table u p =
-      let now : IsFound (latest scripts past x) u.name u.t _ = p.finds u.name u.t (needed_mode u.statement) u.found in
-      locked_alone scripts past (session_of past x) table (needed_mode u.statement) legal (rw (now.number ∙ u.number) at (lock_held scripts past x u.statement u.name now.t rule.locked u.is u.uses now.is))
+      let now : IsFound (latest terms past x) u.name u.t _ = p.finds u.name u.t (needed_mode u.statement) u.found in
+      locked_alone terms past (session_of past x) table (needed_mode u.statement) legal (rw (now.number ∙ u.number) at (lock_held terms past x u.statement u.name now.t rule.locked u.is u.uses now.is))
 
-  by_look : (o : Option Past) → look_of past (session_of past x) ≡ o → UsesOwn scripts past x o
+  by_look : (o : Option Past) → look_of past (session_of past x) ≡ o → UsesOwn terms past x o
   by_look None looked = tt
   by_look (Some look) looked = λ table uses.
-      let u : IsUsing scripts past x look table = using scripts past x look table uses in
-      let i : IsInStep past (session_of past x) = in_step scripts past (session_of past x) u.statement u.is in
-      by_steady look table u (steady scripts past look (session_of past x) x i.block legal (locks_suffice scripts past legal) rule.open_xact looked i.step (kept i.block i.step))
+      let u : IsUsing terms past x look table = using terms past x look table uses in
+      let i : IsInStep past (session_of past x) = in_step terms past (session_of past x) u.statement u.is in
+      by_steady look table u (steady terms past look (session_of past x) x i.block legal (locks_suffice terms past legal) rule.open_xact looked i.step (kept i.block i.step))
 
 -- a row comes into a table that is locked
-pub add_alone : (scripts : Scripts) (past : Past) (x table : ℕ) (row : List Value) → Legal scripts past → AddRule scripts past x table row → IsUser (sole_user past table) (session_of past x)
-add_alone scripts past x table row legal rule =
-    let is : IsInsertion (in_hand scripts past (session_of past x)) (latest scripts past x) table row = insertion (in_hand scripts past (session_of past x)) (latest scripts past x) table row rule.inserts in
-    rw is.number (locked_alone scripts past (session_of past x) is.t.number RowExclusive legal (lock_held scripts past x (statements.Insert is.name is.written) is.name is.t rule.act.locked is.is refl is.found))
+pub add_alone : (terms : Terms) (past : Past) (x table : ℕ) (row : List Value) → Legal terms past → AddRule terms past x table row → IsUser (sole_user past table) (session_of past x)
+add_alone terms past x table row legal rule =
+    let is : IsInsertion (in_hand terms past (session_of past x)) (latest terms past x) table row = insertion (in_hand terms past (session_of past x)) (latest terms past x) table row rule.inserts in
+    rw is.number (locked_alone terms past (session_of past x) is.t.number RowExclusive legal (lock_held terms past x (statements.Insert is.name is.written) is.name is.t rule.act.locked is.is refl is.found))
 
 -- ---- every entry
 
 -- an entry that keeps its rule, and is the one that is owed where one is, uses no table that another has alone
-pub rule_alone : (scripts : Scripts) (past : Past) (e : Entry) → Legal scripts past → Rule scripts past e → Unless (is_grant past e) (Follows (owed scripts past) e) → Alone scripts past e
-rule_alone scripts past (Lock x table mode) legal rule follows = grant_alone past x table mode rule.can_be
-rule_alone scripts past (Look x) legal rule follows = look_alone scripts past x legal rule.locked
-rule_alone scripts past (Add x table row) legal rule follows = add_alone scripts past x table row legal rule
-rule_alone scripts past (Read x names rows) legal rule follows = act_alone scripts past x legal (λ block step. step_kept scripts past (session_of past x) block (Read x names rows) legal step follows (λ none. none)) rule.act
-rule_alone scripts past (Alter x table statement rewritten) legal rule follows = act_alone scripts past x legal (λ block step. step_kept scripts past (session_of past x) block (Alter x table statement rewritten) legal step follows (λ none. none)) rule.act
-rule_alone scripts past e legal rule follows = tt
+pub rule_alone : (terms : Terms) (past : Past) (e : Entry) → Legal terms past → Rule terms past e → Unless (is_grant past e) (Follows (owed terms past) e) → Alone terms past e
+rule_alone terms past (Lock x table mode) legal rule follows = grant_alone past x table mode rule.can_be
+rule_alone terms past (Look x) legal rule follows = look_alone terms past x legal rule.locked
+rule_alone terms past (Add x table row) legal rule follows = add_alone terms past x table row legal rule
+rule_alone terms past (Read x names rows) legal rule follows = act_alone terms past x legal (λ block step. step_kept terms past (session_of past x) block (Read x names rows) legal step follows (λ none. none)) rule.act
+rule_alone terms past (Alter x table statement rewritten) legal rule follows = act_alone terms past x legal (λ block step. step_kept terms past (session_of past x) block (Alter x table statement rewritten) legal step follows (λ none. none)) rule.act
+rule_alone terms past e legal rule follows = tt

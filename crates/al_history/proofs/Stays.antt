@@ -21,7 +21,7 @@ abbrev its : ℕ → ℕ → Mode → Claim
 its s table mode = record { session = s; table = table; mode = mode }
 
 -- what an entry of another leaves: a want is kept, and is the session's own
-kept_want : (b : Bool) (o : Option Want) (w : Want) → cond b None o ≡ Some w → (b ≡ false) × (o ≡ Some w)
+pub kept_want : (b : Bool) (o : Option Want) (w : Want) → cond b None o ≡ Some w → (b ≡ false) × (o ≡ Some w)
 kept_want true o w is = absurd cc
 kept_want false o w is = (refl, is)
 

@@ -6,7 +6,7 @@ use Rattle.al_modes.specs.declared.mode.Mode.{Mode}
 use Rattle.al_modes.specs.declared.mode.Mode.TheVariants.{AccessShare}
 use Rattle.al_history.specs.declared.entry.Entry.{Entry}
 use Rattle.al_history.specs.declared.entry.Entry.TheVariants.{Give, Start, Lock, Look, Make, Add, Read, Alter, Done, Refuse, Commit, Abort, End}
-use Rattle.al_history.specs.declared.statement.Scripts.{Scripts}
+use Rattle.al_history.specs.declared.statement.Terms.{Terms}
 use Rattle.al_history.specs.Past.{Past}
 use Rattle.al_history.specs.Database.{Table, Database, named}
 use Rattle.al_history.specs.Fate.{Fate, Open, Committed, Aborted, fate, is_that, Absent, standing}
@@ -62,49 +62,49 @@ sees_less past x f can seen z sees_it = by_case (or_cases (x == z) (is_committed
   by_case (inr is) = can.committed z (done (fate past z) is)
 
 -- a table that x finds is found by all who see x, with its columns where it is locked for x
-seen_found : (scripts : Scripts) (past : Past) (s x : ℕ) (mode : Mode) (f : ℕ → Bool) (name : List ℕ) (u : Table) → Legal scripts past → Fits scripts past → xact_of past s ≡ Some x → CanSee past f → f x ≡ true → named (latest scripts past x) name ≡ Some u → IsFound (shown f (store scripts past)) name u (is_held (held past) (record { session = s; table = u.number; mode = mode }) ≡ true)
-seen_found scripts past s x mode f name u legal fits own can seen is =
-    let undecided : fate past x ≡ Open = (xact_is scripts past s x legal own).undecided in
-    let here : named (shown (sees past (Some x)) (store scripts past)) name ≡ Some u = rw (latest_shown scripts past x fits undecided) at is in
-    let once : NamesOnce (shown f (store scripts past)) = rw (serves_all scripts past f fits can) at (names_once scripts (stands f) past) in
-    found_less (shown f (store scripts past)) name u (EachOf u.number (λ t. sees past (Some x) t.maker ≡ true → Agree f (sees past (Some x)) t.slots) (store scripts past)) _ (λ lock. agree_locked scripts past s x u.number mode f legal own undecided lock can seen) (found_wider (sees past (Some x)) f (store scripts past) name u (sees_less past x f can seen) once here)
+seen_found : (terms : Terms) (past : Past) (s x : ℕ) (mode : Mode) (f : ℕ → Bool) (name : List ℕ) (u : Table) → Legal terms past → Fits terms past → xact_of past s ≡ Some x → CanSee past f → f x ≡ true → named (latest terms past x) name ≡ Some u → IsFound (shown f (store terms past)) name u (is_held (held past) (record { session = s; table = u.number; mode = mode }) ≡ true)
+seen_found terms past s x mode f name u legal fits own can seen is =
+    let undecided : fate past x ≡ Open = (xact_is terms past s x legal own).undecided in
+    let here : named (shown (sees past (Some x)) (store terms past)) name ≡ Some u = rw (latest_shown terms past x fits undecided) at is in
+    let once : NamesOnce (shown f (store terms past)) = rw (serves_all terms past f fits can) at (names_once terms (stands f) past) in
+    found_less (shown f (store terms past)) name u (EachOf u.number (λ t. sees past (Some x) t.maker ≡ true → Agree f (sees past (Some x)) t.slots) (store terms past)) _ (λ lock. agree_locked terms past s x u.number mode f legal own undecided lock can seen) (found_wider (sees past (Some x)) f (store terms past) name u (sees_less past x f can seen) once here)
 
 -- x finds its tables after another's end
-found_commit : (scripts : Scripts) (past : Past) (s x y : ℕ) (mode : Mode) (name : List ℕ) (u : Table) → Legal scripts past → Fits scripts (Commit y ∷ past) → xact_of past s ≡ Some x → (y == x) ≡ false → named (latest scripts past x) name ≡ Some u → IsFound (latest scripts (Commit y ∷ past) x) name u (is_held (held past) (record { session = s; table = u.number; mode = mode }) ≡ true)
-found_commit scripts past s x y mode name u legal fits own other is =
-    let undecided : fate past x ≡ Open = (xact_is scripts past s x legal own).undecided in
+found_commit : (terms : Terms) (past : Past) (s x y : ℕ) (mode : Mode) (name : List ℕ) (u : Table) → Legal terms past → Fits terms (Commit y ∷ past) → xact_of past s ≡ Some x → (y == x) ≡ false → named (latest terms past x) name ≡ Some u → IsFound (latest terms (Commit y ∷ past) x) name u (is_held (held past) (record { session = s; table = u.number; mode = mode }) ≡ true)
+found_commit terms past s x y mode name u legal fits own other is =
+    let undecided : fate past x ≡ Open = (xact_is terms past s x legal own).undecided in
     let still : fate (Commit y ∷ past) x ≡ Open = rw other undecided in
-    rw (latest_shown scripts (Commit y ∷ past) x fits still) (seen_found scripts past s x mode (sees (Commit y ∷ past) (Some x)) name u legal fits.1 own (can_see_end past x y Committed undecided fits.0) (or_left (x == x) _ (eq-eqb x x refl)) is)
+    rw (latest_shown terms (Commit y ∷ past) x fits still) (seen_found terms past s x mode (sees (Commit y ∷ past) (Some x)) name u legal fits.1 own (can_see_end past x y Committed undecided fits.0) (or_left (x == x) _ (eq-eqb x x refl)) is)
 
-found_abort : (scripts : Scripts) (past : Past) (s x y : ℕ) (mode : Mode) (name : List ℕ) (u : Table) → Legal scripts past → Fits scripts (Abort y ∷ past) → xact_of past s ≡ Some x → (y == x) ≡ false → named (latest scripts past x) name ≡ Some u → IsFound (latest scripts (Abort y ∷ past) x) name u (is_held (held past) (record { session = s; table = u.number; mode = mode }) ≡ true)
-found_abort scripts past s x y mode name u legal fits own other is =
-    let undecided : fate past x ≡ Open = (xact_is scripts past s x legal own).undecided in
+found_abort : (terms : Terms) (past : Past) (s x y : ℕ) (mode : Mode) (name : List ℕ) (u : Table) → Legal terms past → Fits terms (Abort y ∷ past) → xact_of past s ≡ Some x → (y == x) ≡ false → named (latest terms past x) name ≡ Some u → IsFound (latest terms (Abort y ∷ past) x) name u (is_held (held past) (record { session = s; table = u.number; mode = mode }) ≡ true)
+found_abort terms past s x y mode name u legal fits own other is =
+    let undecided : fate past x ≡ Open = (xact_is terms past s x legal own).undecided in
     let still : fate (Abort y ∷ past) x ≡ Open = rw other undecided in
-    rw (latest_shown scripts (Abort y ∷ past) x fits still) (seen_found scripts past s x mode (sees (Abort y ∷ past) (Some x)) name u legal fits.1 own (can_see_end past x y Aborted undecided fits.0) (or_left (x == x) _ (eq-eqb x x refl)) is)
+    rw (latest_shown terms (Abort y ∷ past) x fits still) (seen_found terms past s x mode (sees (Abort y ∷ past) (Some x)) name u legal fits.1 own (can_see_end past x y Aborted undecided fits.0) (or_left (x == x) _ (eq-eqb x x refl)) is)
 
 -- a transaction finds its tables still, whatever comes while it is open
-pub still_found : (scripts : Scripts) (past : Past) (e : Entry) (s x : ℕ) (name : List ℕ) (u : Table) → Legal scripts (e ∷ past) → Fits scripts (e ∷ past) → xact_of past s ≡ Some x → xact_of (e ∷ past) s ≡ Some x → named (latest scripts past x) name ≡ Some u → IsFound (latest scripts (e ∷ past) x) name u ⊥
-still_found scripts past (Make y table other shape) s x name u legal fits own later is = found_after_make (standing past past (Some x) y) table other shape (latest scripts past x) name u ⊥ is
-still_found scripts past (Add y table row) s x name u legal fits own later is = found_after_add (standing past past (Some x) y) (length past) table row (latest scripts past x) name u ⊥ is
-still_found scripts past (Alter y table statement rewritten) s x name u legal fits own later is = found_after_alter (standing past past (Some x) y) (statement_of scripts (hand past (session_of past y)) statement) table (latest scripts past x) name u ⊥ (λ asked. absurd asked) is
-still_found scripts past (Commit y) s x name u legal fits own later is =
+pub still_found : (terms : Terms) (past : Past) (e : Entry) (s x : ℕ) (name : List ℕ) (u : Table) → Legal terms (e ∷ past) → Fits terms (e ∷ past) → xact_of past s ≡ Some x → xact_of (e ∷ past) s ≡ Some x → named (latest terms past x) name ≡ Some u → IsFound (latest terms (e ∷ past) x) name u ⊥
+still_found terms past (Make y table other shape) s x name u legal fits own later is = found_after_make (standing past past (Some x) y) table other shape (latest terms past x) name u ⊥ is
+still_found terms past (Add y table row) s x name u legal fits own later is = found_after_add (standing past past (Some x) y) (length past) table row (latest terms past x) name u ⊥ is
+still_found terms past (Alter y table statement rewritten) s x name u legal fits own later is = found_after_alter (standing past past (Some x) y) (statement_of terms (hand past (session_of past y)) statement) table (latest terms past x) name u ⊥ (λ asked. absurd asked) is
+still_found terms past (Commit y) s x name u legal fits own later is =
     let other : is_that (xact_of past s) y ≡ false = (not_none (is_that (xact_of past s) y) (xact_of past s) x later).0 in
-    found_less (latest scripts (Commit y ∷ past) x) name u _ ⊥ (λ asked. absurd asked) (found_commit scripts past s x y AccessShare name u legal.1 fits own (turn x y (rw own at other)) is)
-still_found scripts past (Abort y) s x name u legal fits own later is =
+    found_less (latest terms (Commit y ∷ past) x) name u _ ⊥ (λ asked. absurd asked) (found_commit terms past s x y AccessShare name u legal.1 fits own (turn x y (rw own at other)) is)
+still_found terms past (Abort y) s x name u legal fits own later is =
     let other : is_that (xact_of past s) y ≡ false = (not_none (is_that (xact_of past s) y) (xact_of past s) x later).0 in
-    found_less (latest scripts (Abort y ∷ past) x) name u _ ⊥ (λ asked. absurd asked) (found_abort scripts past s x y AccessShare name u legal.1 fits own (turn x y (rw own at other)) is)
-still_found scripts past e s x name u legal fits own later is = found_so (latest scripts past x) name u ⊥ is
+    found_less (latest terms (Abort y ∷ past) x) name u _ ⊥ (λ asked. absurd asked) (found_abort terms past s x y AccessShare name u legal.1 fits own (turn x y (rw own at other)) is)
+still_found terms past e s x name u legal fits own later is = found_so (latest terms past x) name u ⊥ is
 
 -- ---- from the Look on
 
 -- what is known of a session's statement since its Look
-pub record IsSteady (scripts : Scripts) (past look : Past) (s x : ℕ) : Type 0 where
+pub record IsSteady (terms : Terms) (past look : Past) (s x : ℕ) : Type 0 where
   pub own : session_of look x ≡ s
-  pub was_legal : Legal scripts look
-  pub rule : LookRule scripts look x
-  pub statement : in_hand scripts look s ≡ in_hand scripts past s
+  pub was_legal : Legal terms look
+  pub rule : LookRule terms look x
+  pub statement : in_hand terms look s ≡ in_hand terms past s
   pub locks : (c : Claim) → c.session ≡ s → is_held (held look) c ≡ true → is_held (held past) c ≡ true
-  pub finds : (name : List ℕ) (u : Table) (mode : Mode) → named (latest scripts look x) name ≡ Some u → IsFound (latest scripts past x) name u ((is_held (held look) (record { session = s; table = u.number; mode = mode }) ≡ true) × (acts_of past s ≡ []))
+  pub finds : (name : List ℕ) (u : Table) (mode : Mode) → named (latest terms look x) name ≡ Some u → IsFound (latest terms past x) name u ((is_held (held look) (record { session = s; table = u.number; mode = mode }) ≡ true) × (acts_of past s ≡ []))
 
 none_acted : (b : Bool) (acts : List ℕ) (place : ℕ) → cond b (acts ++ place ∷ []) acts ≡ [] → (b ≡ false) × (acts ≡ [])
 none_acted true [] place none = absurd cc
@@ -115,76 +115,76 @@ another_session : (past : Past) (s x y : ℕ) → xact_of past s ≡ Some x → 
 another_session past s x y own its other = ne_eqb _ _ (λ same. let its_too : xact_of past s ≡ Some y = rw same its in let yes : y ≡ x = cc in let no : (y == x) ≡ true = eq-eqb y x yes in absurd cc)
 
 -- a transaction's table while the statement does nothing
-step_found : (scripts : Scripts) (past look : Past) (s x : ℕ) (after : Database) (Next : Type 0) (name : List ℕ) (u : Table) (mode : Mode) → IsSteady scripts past look s x → named (latest scripts look x) name ≡ Some u → (Next → acts_of past s ≡ []) → ((t : Table) → named (latest scripts past x) name ≡ Some t → IsFound after name t (Next × (is_held (held past) (record { session = s; table = t.number; mode = mode }) ≡ true))) → IsFound after name u ((is_held (held look) (record { session = s; table = u.number; mode = mode }) ≡ true) × Next)
-step_found scripts past look s x after Next name u mode steady is none next = found_then (latest scripts past x) after name u _ _ (λ asked. (asked.0, none asked.1)) (steady.finds name u mode is) (λ t found number. found_less after name t _ _ (λ asked. (asked.1, rw number (steady.locks (record { session = s; table = u.number; mode = mode }) refl asked.0))) (next t found))
+step_found : (terms : Terms) (past look : Past) (s x : ℕ) (after : Database) (Next : Type 0) (name : List ℕ) (u : Table) (mode : Mode) → IsSteady terms past look s x → named (latest terms look x) name ≡ Some u → (Next → acts_of past s ≡ []) → ((t : Table) → named (latest terms past x) name ≡ Some t → IsFound after name t (Next × (is_held (held past) (record { session = s; table = t.number; mode = mode }) ≡ true))) → IsFound after name u ((is_held (held look) (record { session = s; table = u.number; mode = mode }) ≡ true) × Next)
+step_found terms past look s x after Next name u mode steady is none next = found_then (latest terms past x) after name u _ _ (λ asked. (asked.0, none asked.1)) (steady.finds name u mode is) (λ t found number. found_less after name t _ _ (λ asked. (asked.1, rw number (steady.locks (record { session = s; table = u.number; mode = mode }) refl asked.0))) (next t found))
 
-pub steady : (scripts : Scripts) (past look : Past) (s x block : ℕ) → Legal scripts past → Fits scripts past → xact_of past s ≡ Some x → look_of past s ≡ Some look → hand past s ≡ Some block → refused past s ≡ false → IsSteady scripts past look s x
-steady scripts [] look s x block legal fits own looked step kept = absurd cc
-steady scripts (Give r given ∷ past) look s x block legal fits own looked step kept =
+pub steady : (terms : Terms) (past look : Past) (s x block : ℕ) → Legal terms past → Fits terms past → xact_of past s ≡ Some x → look_of past s ≡ Some look → hand past s ≡ Some block → refused past s ≡ false → IsSteady terms past look s x
+steady terms [] look s x block legal fits own looked step kept = absurd cc
+steady terms (Give r given ∷ past) look s x block legal fits own looked step kept =
     let other : ((r == s) ≡ false) × (look_of past s ≡ Some look) = not_none (r == s) (look_of past s) look looked in
-    let p : IsSteady scripts past look s x = steady scripts past look s x block legal.1 fits own other.1 (rw other.0 at step) (rw other.0 at kept) in
+    let p : IsSteady terms past look s x = steady terms past look s x block legal.1 fits own other.1 (rw other.0 at step) (rw other.0 at kept) in
     record { own = p.own; was_legal = p.was_legal; rule = p.rule; statement = rw other.0 p.statement; locks = p.locks; finds = rw other.0 p.finds }
-steady scripts (Start r level ∷ past) look s x block legal fits own looked step kept = by_test (r == s) refl own (λ h. steady scripts past look s x block legal.1 fits h looked step kept) where
-  by_test : (b : Bool) → (r == s) ≡ b → cond b (Some (length past)) (xact_of past s) ≡ Some x → (xact_of past s ≡ Some x → IsSteady scripts past look s x) → IsSteady scripts (Start r level ∷ past) look s x
+steady terms (Start r level ∷ past) look s x block legal fits own looked step kept = by_test (r == s) refl own (λ h. steady terms past look s x block legal.1 fits h looked step kept) where
+  by_test : (b : Bool) → (r == s) ≡ b → cond b (Some (length past)) (xact_of past s) ≡ Some x → (xact_of past s ≡ Some x → IsSteady terms past look s x) → IsSteady terms (Start r level ∷ past) look s x
   by_test true same own more =
       let none : xact_of past s ≡ None = rw (eqb-true r s same) at legal.0.rule.none_open in
-      let some : IsSome (xact_of past s) = looked_open scripts past look s block legal.1 looked step kept in
+      let some : IsSome (xact_of past s) = looked_open terms past look s block legal.1 looked step kept in
       let no : is_some {T = ℕ} None ≡ true = rw none at some in
       absurd cc
   by_test false other own more =
-      let p : IsSteady scripts past look s x = more own in
+      let p : IsSteady terms past look s x = more own in
       record { own = p.own; was_legal = p.was_legal; rule = p.rule; statement = p.statement; locks = p.locks; finds = p.finds }
-steady scripts (Lock y table mode ∷ past) look s x block legal fits own looked step kept =
-    let p : IsSteady scripts past look s x = steady scripts past look s x block legal.1 fits own looked step kept in
+steady terms (Lock y table mode ∷ past) look s x block legal fits own looked step kept =
+    let p : IsSteady terms past look s x = steady terms past look s x block legal.1 fits own looked step kept in
     record { own = p.own; was_legal = p.was_legal; rule = p.rule; statement = p.statement; locks = λ c its there. held_still (held past) c (claim past y table mode) (p.locks c its there); finds = p.finds }
-steady scripts (Look y ∷ past) look s x block legal fits own looked step kept = by_test (is_that (xact_of past s) y) refl looked (λ h. steady scripts past look s x block legal.1 fits own h step kept) where
-  here : past ≡ look → y ≡ x → IsSteady scripts (Look y ∷ past) look s x
-  here at is = rw (← at) (record { own = (xact_is scripts past s x legal.1 own).own; was_legal = legal.1; rule = rw (← is) legal.0.rule; statement = refl; locks = λ c its there. there; finds = λ name u mode found. found_so (latest scripts past x) name u _ found })
+steady terms (Look y ∷ past) look s x block legal fits own looked step kept = by_test (is_that (xact_of past s) y) refl looked (λ h. steady terms past look s x block legal.1 fits own h step kept) where
+  here : past ≡ look → y ≡ x → IsSteady terms (Look y ∷ past) look s x
+  here at is = rw (← at) (record { own = (xact_is terms past s x legal.1 own).own; was_legal = legal.1; rule = rw (← is) legal.0.rule; statement = refl; locks = λ c its there. there; finds = λ name u mode found. found_so (latest terms past x) name u _ found })
 
-  by_test : (b : Bool) → is_that (xact_of past s) y ≡ b → cond b (Some past) (look_of past s) ≡ Some look → (look_of past s ≡ Some look → IsSteady scripts past look s x) → IsSteady scripts (Look y ∷ past) look s x
+  by_test : (b : Bool) → is_that (xact_of past s) y ≡ b → cond b (Some past) (look_of past s) ≡ Some look → (look_of past s ≡ Some look → IsSteady terms past look s x) → IsSteady terms (Look y ∷ past) look s x
   by_test true its looked more = let that : xact_of past s ≡ Some y = is_that_so (xact_of past s) y its in
       let at : past ≡ look = cc in
       let is : y ≡ x = cc in
       here at is
   by_test false other looked more =
-      let p : IsSteady scripts past look s x = more looked in
+      let p : IsSteady terms past look s x = more looked in
       record { own = p.own; was_legal = p.was_legal; rule = p.rule; statement = p.statement; locks = p.locks; finds = p.finds }
-steady scripts (Make y table other shape ∷ past) look s x block legal fits own looked step kept =
-    let p : IsSteady scripts past look s x = steady scripts past look s x block legal.1 fits.1 own looked step kept in
-    record { own = p.own; was_legal = p.was_legal; rule = p.rule; statement = p.statement; locks = p.locks; finds = λ name u mode is. step_found scripts past look s x (latest scripts (Make y table other shape ∷ past) x) _ name u mode p is (λ none. (none_acted _ _ _ none).1) (λ t found. found_after_make (standing past past (Some x) y) table other shape (latest scripts past x) name t _ found) }
-steady scripts (Add y table row ∷ past) look s x block legal fits own looked step kept =
-    let p : IsSteady scripts past look s x = steady scripts past look s x block legal.1 fits.1 own looked step kept in
-    record { own = p.own; was_legal = p.was_legal; rule = p.rule; statement = p.statement; locks = p.locks; finds = λ name u mode is. step_found scripts past look s x (latest scripts (Add y table row ∷ past) x) _ name u mode p is (λ none. (none_acted _ _ _ none).1) (λ t found. found_after_add (standing past past (Some x) y) (length past) table row (latest scripts past x) name t _ found) }
-steady scripts (Read y names rows ∷ past) look s x block legal fits own looked step kept =
-    let p : IsSteady scripts past look s x = steady scripts past look s x block legal.1 fits own looked step kept in
-    record { own = p.own; was_legal = p.was_legal; rule = p.rule; statement = p.statement; locks = p.locks; finds = λ name u mode is. step_found scripts past look s x (latest scripts past x) _ name u mode p is (λ none. (none_acted _ _ _ none).1) (λ t found. found_so (latest scripts past x) name t _ found) }
-steady scripts (Alter y table statement rewritten ∷ past) look s x block legal fits own looked step kept =
-    let p : IsSteady scripts past look s x = steady scripts past look s x block legal.1 fits.1 own looked step kept in
-    let undecided : fate past y ≡ Open = (xact_is scripts past (session_of past y) y legal.1 legal.0.rule.act.open_xact).undecided in
-    record { own = p.own; was_legal = p.was_legal; rule = p.rule; statement = p.statement; locks = p.locks; finds = λ name u mode is. step_found scripts past look s x (latest scripts (Alter y table statement rewritten ∷ past) x) _ name u mode p is (λ none. (none_acted _ _ _ none).1) (λ t found. found_after_alter (standing past past (Some x) y) (statement_of scripts (hand past (session_of past y)) statement) table (latest scripts past x) name t _ (λ asked. absent undecided (none_acted _ _ _ asked.0).0) found) } where
+steady terms (Make y table other shape ∷ past) look s x block legal fits own looked step kept =
+    let p : IsSteady terms past look s x = steady terms past look s x block legal.1 fits.1 own looked step kept in
+    record { own = p.own; was_legal = p.was_legal; rule = p.rule; statement = p.statement; locks = p.locks; finds = λ name u mode is. step_found terms past look s x (latest terms (Make y table other shape ∷ past) x) _ name u mode p is (λ none. (none_acted _ _ _ none).1) (λ t found. found_after_make (standing past past (Some x) y) table other shape (latest terms past x) name t _ found) }
+steady terms (Add y table row ∷ past) look s x block legal fits own looked step kept =
+    let p : IsSteady terms past look s x = steady terms past look s x block legal.1 fits.1 own looked step kept in
+    record { own = p.own; was_legal = p.was_legal; rule = p.rule; statement = p.statement; locks = p.locks; finds = λ name u mode is. step_found terms past look s x (latest terms (Add y table row ∷ past) x) _ name u mode p is (λ none. (none_acted _ _ _ none).1) (λ t found. found_after_add (standing past past (Some x) y) (length past) table row (latest terms past x) name t _ found) }
+steady terms (Read y names rows ∷ past) look s x block legal fits own looked step kept =
+    let p : IsSteady terms past look s x = steady terms past look s x block legal.1 fits own looked step kept in
+    record { own = p.own; was_legal = p.was_legal; rule = p.rule; statement = p.statement; locks = p.locks; finds = λ name u mode is. step_found terms past look s x (latest terms past x) _ name u mode p is (λ none. (none_acted _ _ _ none).1) (λ t found. found_so (latest terms past x) name t _ found) }
+steady terms (Alter y table statement rewritten ∷ past) look s x block legal fits own looked step kept =
+    let p : IsSteady terms past look s x = steady terms past look s x block legal.1 fits.1 own looked step kept in
+    let undecided : fate past y ≡ Open = (xact_is terms past (session_of past y) y legal.1 legal.0.rule.act.open_xact).undecided in
+    record { own = p.own; was_legal = p.was_legal; rule = p.rule; statement = p.statement; locks = p.locks; finds = λ name u mode is. step_found terms past look s x (latest terms (Alter y table statement rewritten ∷ past) x) _ name u mode p is (λ none. (none_acted _ _ _ none).1) (λ t found. found_after_alter (standing past past (Some x) y) (statement_of terms (hand past (session_of past y)) statement) table (latest terms past x) name t _ (λ asked. absent undecided (none_acted _ _ _ asked.0).0) found) } where
       absent : fate past y ≡ Open → is_that (xact_of past s) y ≡ false → standing past past (Some x) y ≡ Absent
       absent undecided other = let others : (x == y) ≡ false = rw own at other in rw (others, undecided) refl
-steady scripts (Done r reply ∷ past) look s x block legal fits own looked step kept =
+steady terms (Done r reply ∷ past) look s x block legal fits own looked step kept =
     let other : ((r == s) ≡ false) × (look_of past s ≡ Some look) = not_none (r == s) (look_of past s) look looked in
-    let p : IsSteady scripts past look s x = steady scripts past look s x block legal.1 fits own other.1 step kept in
+    let p : IsSteady terms past look s x = steady terms past look s x block legal.1 fits own other.1 step kept in
     record { own = p.own; was_legal = p.was_legal; rule = p.rule; statement = rw other.0 p.statement; locks = p.locks; finds = rw other.0 p.finds }
-steady scripts (Refuse r cause ∷ past) look s x block legal fits own looked step kept =
-    let p : IsSteady scripts past look s x = steady scripts past look s x block legal.1 fits own looked step (not_true (r == s) (refused past s) kept).1 in
+steady terms (Refuse r cause ∷ past) look s x block legal fits own looked step kept =
+    let p : IsSteady terms past look s x = steady terms past look s x block legal.1 fits own looked step (not_true (r == s) (refused past s) kept).1 in
     record { own = p.own; was_legal = p.was_legal; rule = p.rule; statement = p.statement; locks = p.locks; finds = p.finds }
-steady scripts (End r ∷ past) look s x block legal fits own looked step kept =
+steady terms (End r ∷ past) look s x block legal fits own looked step kept =
     let other : ((r == s) ≡ false) × (hand past s ≡ Some block) = not_none (r == s) (hand past s) block step in
-    let p : IsSteady scripts past look s x = steady scripts past look s x block legal.1 fits own looked other.1 kept in
+    let p : IsSteady terms past look s x = steady terms past look s x block legal.1 fits own looked other.1 kept in
     record { own = p.own; was_legal = p.was_legal; rule = p.rule; statement = rw other.0 p.statement; locks = p.locks; finds = p.finds }
-steady scripts (Commit y ∷ past) look s x block legal fits own looked step kept =
+steady terms (Commit y ∷ past) look s x block legal fits own looked step kept =
     let before : (is_that (xact_of past s) y ≡ false) × (xact_of past s ≡ Some x) = not_none (is_that (xact_of past s) y) (xact_of past s) x own in
-    let p : IsSteady scripts past look s x = steady scripts past look s x block legal.1 fits.1 before.1 looked step kept in
+    let p : IsSteady terms past look s x = steady terms past look s x block legal.1 fits.1 before.1 looked step kept in
     let apart : (y == x) ≡ false = turn x y (rw before.1 at before.0) in
-    record { own = p.own; was_legal = p.was_legal; rule = p.rule; statement = p.statement; locks = λ c its there. held_besides (session_of past y) (held past) c (rw its (another_session past s x y before.1 legal.0.rule.open_xact apart)) (p.locks c its there); finds = λ name u mode is. step_found scripts past look s x (latest scripts (Commit y ∷ past) x) _ name u mode p is (λ none. none) (λ t found. found_less _ name t _ _ (λ asked. asked.1) (found_commit scripts past s x y mode name t legal.1 fits before.1 apart found)) }
-steady scripts (Abort y ∷ past) look s x block legal fits own looked step kept =
+    record { own = p.own; was_legal = p.was_legal; rule = p.rule; statement = p.statement; locks = λ c its there. held_besides (session_of past y) (held past) c (rw its (another_session past s x y before.1 legal.0.rule.open_xact apart)) (p.locks c its there); finds = λ name u mode is. step_found terms past look s x (latest terms (Commit y ∷ past) x) _ name u mode p is (λ none. none) (λ t found. found_less _ name t _ _ (λ asked. asked.1) (found_commit terms past s x y mode name t legal.1 fits before.1 apart found)) }
+steady terms (Abort y ∷ past) look s x block legal fits own looked step kept =
     let before : (is_that (xact_of past s) y ≡ false) × (xact_of past s ≡ Some x) = not_none (is_that (xact_of past s) y) (xact_of past s) x own in
-    let p : IsSteady scripts past look s x = steady scripts past look s x block legal.1 fits.1 before.1 looked step kept in
+    let p : IsSteady terms past look s x = steady terms past look s x block legal.1 fits.1 before.1 looked step kept in
     let apart : (y == x) ≡ false = turn x y (rw before.1 at before.0) in
-    record { own = p.own; was_legal = p.was_legal; rule = p.rule; statement = p.statement; locks = λ c its there. held_besides (session_of past y) (held past) c (rw its (another_session past s x y before.1 legal.0.rule.open_xact apart)) (p.locks c its there); finds = λ name u mode is. step_found scripts past look s x (latest scripts (Abort y ∷ past) x) _ name u mode p is (λ none. none) (λ t found. found_less _ name t _ _ (λ asked. asked.1) (found_abort scripts past s x y mode name t legal.1 fits before.1 apart found)) }
-steady scripts (e ∷ past) look s x block legal fits own looked step kept =
-    let p : IsSteady scripts past look s x = steady scripts past look s x block legal.1 fits own looked step kept in
+    record { own = p.own; was_legal = p.was_legal; rule = p.rule; statement = p.statement; locks = λ c its there. held_besides (session_of past y) (held past) c (rw its (another_session past s x y before.1 legal.0.rule.open_xact apart)) (p.locks c its there); finds = λ name u mode is. step_found terms past look s x (latest terms (Abort y ∷ past) x) _ name u mode p is (λ none. none) (λ t found. found_less _ name t _ _ (λ asked. asked.1) (found_abort terms past s x y mode name t legal.1 fits before.1 apart found)) }
+steady terms (e ∷ past) look s x block legal fits own looked step kept =
+    let p : IsSteady terms past look s x = steady terms past look s x block legal.1 fits own looked step kept in
     record { own = p.own; was_legal = p.was_legal; rule = p.rule; statement = p.statement; locks = p.locks; finds = p.finds }

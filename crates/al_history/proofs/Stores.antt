@@ -7,7 +7,7 @@ use Rattle.al_history.specs.declared.entry.Entry.TheVariants.{Give, Start, Wait,
 use Rattle.al_history.specs.declared.statement.Column.{Column}
 use Rattle.al_history.specs.declared.statement.Statement.{Statement}
 use Rattle.al_history.specs.declared.statement.Statement.TheVariants as statements
-use Rattle.al_history.specs.declared.statement.Scripts.{Scripts}
+use Rattle.al_history.specs.declared.statement.Terms.{Terms}
 use Rattle.al_history.specs.Past.{Past}
 use Rattle.al_history.specs.Database.{VersionedRow, Table, Database, named, has_table, has_row, has_column, with_table}
 use Rattle.al_history.specs.Change.{made, with_row, added, alteration, after_alteration, altered}
@@ -50,7 +50,7 @@ rows_short_push : (slots : List Slot) (rows : List KeptRow) (r : KeptRow) → Ro
 rows_short_push slots [] r short le = (le, tt)
 rows_short_push slots (q ∷ rows) r short le = (short.0, rows_short_push slots rows r short.1 le)
 
-length_push : {A : Type 0} (xs : List A) (x : A) → length (xs ++ x ∷ []) ≡ suc (length xs)
+pub length_push : {A : Type 0} (xs : List A) (x : A) → length (xs ++ x ∷ []) ≡ suc (length xs)
 length_push [] x = refl
 length_push (y ∷ xs) x = ap suc (length_push xs x)
 
@@ -115,26 +115,26 @@ slot_keeps (Some (statements.Insert name values)) next x l t sound = as_was next
 slot_keeps (Some (statements.Select name)) next x l t sound = as_was next l t sound
 slot_keeps (Some (statements.AddColumn name column)) next x l t sound = record { from = sound.from; below = omega (arith, sound.below); rows_below = rows_below_more next (suc next) t.rows (omega arith) sound.rows_below; rows_short = rows_short_more t.slots _ t.rows sound.rows_short }
 
-store_sound : (scripts : Scripts) (past : Past) → Fits scripts past → AreSound 0 (length past) (store scripts past)
-store_sound scripts [] fits = tt
-store_sound scripts (Give s block ∷ past) fits = sound_more 0 (length past) _ _ (omega arith) (store_sound scripts past fits)
-store_sound scripts (Start s level ∷ past) fits = sound_more 0 (length past) _ _ (omega arith) (store_sound scripts past fits)
-store_sound scripts (Wait x want ∷ past) fits = sound_more 0 (length past) _ _ (omega arith) (store_sound scripts past fits)
-store_sound scripts (Lock x table mode ∷ past) fits = sound_more 0 (length past) _ _ (omega arith) (store_sound scripts past fits)
-store_sound scripts (Look x ∷ past) fits = sound_more 0 (length past) _ _ (omega arith) (store_sound scripts past fits)
-store_sound scripts (Make x table name shape ∷ past) fits = sound_push 0 (length past) _ _ _ (omega arith) fits.0.number (omega arith) refl (store_sound scripts past fits.1)
-store_sound scripts (Add x table row ∷ past) fits = sound_with 0 (length past) _ table _ _ (omega arith) (λ t. refl) (λ l t sound. row_keeps (length past) x (sees past (Some x)) row l t sound) (store_sound scripts past fits.1)
-store_sound scripts (Read x names rows ∷ past) fits = sound_more 0 (length past) _ _ (omega arith) (store_sound scripts past fits)
-store_sound scripts (Alter x table statement rewritten ∷ past) fits =
-    let o : Option Statement = statement_of scripts (hand past (session_of past x)) statement in
-    sound_with 0 (length past) _ table (kept_slot o x) _ (omega arith) (λ t. (slot_same o x t).0) (λ l t sound. slot_keeps o (length past) x l t sound) (store_sound scripts past fits.1)
-store_sound scripts (Done s reply ∷ past) fits = sound_more 0 (length past) _ _ (omega arith) (store_sound scripts past fits)
-store_sound scripts (Refuse s cause ∷ past) fits = sound_more 0 (length past) _ _ (omega arith) (store_sound scripts past fits)
-store_sound scripts (Commit x ∷ past) fits = sound_more 0 (length past) _ _ (omega arith) (store_sound scripts past fits.1)
-store_sound scripts (Abort x ∷ past) fits = sound_more 0 (length past) _ _ (omega arith) (store_sound scripts past fits.1)
-store_sound scripts (Cancel s ∷ past) fits = sound_more 0 (length past) _ _ (omega arith) (store_sound scripts past fits)
-store_sound scripts (End s ∷ past) fits = sound_more 0 (length past) _ _ (omega arith) (store_sound scripts past fits)
-store_sound scripts (Close s ∷ past) fits = sound_more 0 (length past) _ _ (omega arith) (store_sound scripts past fits)
+store_sound : (terms : Terms) (past : Past) → Fits terms past → AreSound 0 (length past) (store terms past)
+store_sound terms [] fits = tt
+store_sound terms (Give s block ∷ past) fits = sound_more 0 (length past) _ _ (omega arith) (store_sound terms past fits)
+store_sound terms (Start s level ∷ past) fits = sound_more 0 (length past) _ _ (omega arith) (store_sound terms past fits)
+store_sound terms (Wait x want ∷ past) fits = sound_more 0 (length past) _ _ (omega arith) (store_sound terms past fits)
+store_sound terms (Lock x table mode ∷ past) fits = sound_more 0 (length past) _ _ (omega arith) (store_sound terms past fits)
+store_sound terms (Look x ∷ past) fits = sound_more 0 (length past) _ _ (omega arith) (store_sound terms past fits)
+store_sound terms (Make x table name shape ∷ past) fits = sound_push 0 (length past) _ _ _ (omega arith) fits.0.number (omega arith) refl (store_sound terms past fits.1)
+store_sound terms (Add x table row ∷ past) fits = sound_with 0 (length past) _ table _ _ (omega arith) (λ t. refl) (λ l t sound. row_keeps (length past) x (sees past (Some x)) row l t sound) (store_sound terms past fits.1)
+store_sound terms (Read x names rows ∷ past) fits = sound_more 0 (length past) _ _ (omega arith) (store_sound terms past fits)
+store_sound terms (Alter x table statement rewritten ∷ past) fits =
+    let o : Option Statement = statement_of terms (hand past (session_of past x)) statement in
+    sound_with 0 (length past) _ table (kept_slot o x) _ (omega arith) (λ t. (slot_same o x t).0) (λ l t sound. slot_keeps o (length past) x l t sound) (store_sound terms past fits.1)
+store_sound terms (Done s reply ∷ past) fits = sound_more 0 (length past) _ _ (omega arith) (store_sound terms past fits)
+store_sound terms (Refuse s cause ∷ past) fits = sound_more 0 (length past) _ _ (omega arith) (store_sound terms past fits)
+store_sound terms (Commit x ∷ past) fits = sound_more 0 (length past) _ _ (omega arith) (store_sound terms past fits.1)
+store_sound terms (Abort x ∷ past) fits = sound_more 0 (length past) _ _ (omega arith) (store_sound terms past fits.1)
+store_sound terms (Cancel s ∷ past) fits = sound_more 0 (length past) _ _ (omega arith) (store_sound terms past fits)
+store_sound terms (End s ∷ past) fits = sound_more 0 (length past) _ _ (omega arith) (store_sound terms past fits)
+store_sound terms (Close s ∷ past) fits = sound_more 0 (length past) _ _ (omega arith) (store_sound terms past fits)
 
 -- ---- what is shown of a table that has changed
 
@@ -299,17 +299,17 @@ no_number f low next (t ∷ tables) sound = by_test (f t.maker) (no_number f (t.
   by_test true more = let other : (t.number == next) ≡ false = ne_eqb t.number next (λ e. omega (arith, sound.0.below)) in rw (other, more) refl
   by_test false more = more
 
-makes : (scripts : Scripts) (past : Past) (f : ℕ → Bool) (x table : ℕ) (name : List ℕ) (shape : List Column) → MakeFits scripts past x table name → CanSee past f → AreSound 0 (length past) (store scripts past) → for_both (stands f x) (made table name shape (shown f (store scripts past))) (shown f (store scripts past)) ≡ shown f (store scripts past ++ record { number = table; maker = x; name = name; slots = slots_of x shape; rows = [] } ∷ [])
-makes scripts past f x table name shape fits can sound = by_seen (f x) refl where
-  by_seen : (b : Bool) → f x ≡ b → for_both (stands f x) (made table name shape (shown f (store scripts past))) (shown f (store scripts past)) ≡ shown f (store scripts past ++ record { number = table; maker = x; name = name; slots = slots_of x shape; rows = [] } ∷ [])
+makes : (terms : Terms) (past : Past) (f : ℕ → Bool) (x table : ℕ) (name : List ℕ) (shape : List Column) → MakeFits terms past x table name → CanSee past f → AreSound 0 (length past) (store terms past) → for_both (stands f x) (made table name shape (shown f (store terms past))) (shown f (store terms past)) ≡ shown f (store terms past ++ record { number = table; maker = x; name = name; slots = slots_of x shape; rows = [] } ∷ [])
+makes terms past f x table name shape fits can sound = by_seen (f x) refl where
+  by_seen : (b : Bool) → f x ≡ b → for_both (stands f x) (made table name shape (shown f (store terms past))) (shown f (store terms past)) ≡ shown f (store terms past ++ record { number = table; maker = x; name = name; slots = slots_of x shape; rows = [] } ∷ [])
   by_seen true seen =
-      let number : has_table (shown f (store scripts past)) table ≡ false = rw fits.number (no_number f 0 (length past) (store scripts past) sound) in
-      let unnamed : is_some (named (shown f (store scripts past)) name) ≡ false = fits.unnamed f can seen in
+      let number : has_table (shown f (store terms past)) table ≡ false = rw fits.number (no_number f 0 (length past) (store terms past) sound) in
+      let unnamed : is_some (named (shown f (store terms past)) name) ≡ false = fits.unnamed f can seen in
       rw (seen, number, unnamed, shown_push, seen, all_slots f x shape seen) refl
-  by_seen false seen = rw (seen, shown_push, seen) (sym (append_none (shown f (store scripts past))))
+  by_seen false seen = rw (seen, shown_push, seen) (sym (append_none (shown f (store terms past))))
 
-adds : (scripts : Scripts) (past : Past) (f : ℕ → Bool) (x table : ℕ) (row : List Value) → AddFits scripts past x table row → CanSee past f → AreSound 0 (length past) (store scripts past) → for_inside (stands f x) (added (length past) table row (shown f (store scripts past))) (shown f (store scripts past)) ≡ shown f (with_kept table (kept_row (length past) x (sees past (Some x)) row) (store scripts past))
-adds scripts past f x table row fits can sound = by_seen (f x) refl where
+adds : (terms : Terms) (past : Past) (f : ℕ → Bool) (x table : ℕ) (row : List Value) → AddFits terms past x table row → CanSee past f → AreSound 0 (length past) (store terms past) → for_inside (stands f x) (added (length past) table row (shown f (store terms past))) (shown f (store terms past)) ≡ shown f (with_kept table (kept_row (length past) x (sees past (Some x)) row) (store terms past))
+adds terms past f x table row fits can sound = by_seen (f x) refl where
   own : (seen : f x ≡ true) (low : ℕ) (tables : List KeptTable) → AreSound low (length past) tables → EachOf table (λ t. f t.maker ≡ true → Agree f (sees past (Some x)) t.slots × (length row ≡ length (shown_columns f t.slots))) tables → EachOf table (λ t. f t.maker ≡ true → shown_table f (kept_row (length past) x (sees past (Some x)) row t) ≡ with_row (length past) row (shown_table f t)) tables
   own seen low [] sound each = tt
   own seen low (t ∷ tables) sound each = (
@@ -325,9 +325,9 @@ adds scripts past f x table row fits can sound = by_seen (f x) refl where
   other seen [] = tt
   other seen (t ∷ tables) = ((λ is. rw (shown_rows_push, seen, append_none (shown_rows f t.slots t.rows)) refl), other seen tables)
 
-  by_seen : (b : Bool) → f x ≡ b → for_inside (stands f x) (added (length past) table row (shown f (store scripts past))) (shown f (store scripts past)) ≡ shown f (with_kept table (kept_row (length past) x (sees past (Some x)) row) (store scripts past))
-  by_seen true seen = rw seen (sym (shown_with f 0 (length past) table (kept_row (length past) x (sees past (Some x)) row) (with_row (length past) row) (store scripts past) (λ t. refl) sound (own seen 0 (store scripts past) sound (fits.fits f can seen))))
-  by_seen false seen = rw seen (sym (shown_unseen f table (kept_row (length past) x (sees past (Some x)) row) (store scripts past) (λ t. refl) (other seen (store scripts past))))
+  by_seen : (b : Bool) → f x ≡ b → for_inside (stands f x) (added (length past) table row (shown f (store terms past))) (shown f (store terms past)) ≡ shown f (with_kept table (kept_row (length past) x (sees past (Some x)) row) (store terms past))
+  by_seen true seen = rw seen (sym (shown_with f 0 (length past) table (kept_row (length past) x (sees past (Some x)) row) (with_row (length past) row) (store terms past) (λ t. refl) sound (own seen 0 (store terms past) sound (fits.fits f can seen))))
+  by_seen false seen = rw seen (sym (shown_unseen f table (kept_row (length past) x (sees past (Some x)) row) (store terms past) (λ t. refl) (other seen (store terms past))))
 
 -- a new column, as a reader of its maker sees it, and as another does
 slot_seen : (f : ℕ → Bool) (next l x : ℕ) (column : Column) (t : KeptTable) → f x ≡ true → IsSound l next t → has_column (shown_columns f t.slots) column.name ≡ false → shown_table f (record t { slots = t.slots ++ record { maker = x; column = column } ∷ [] }) ≡ after_alteration (alteration column (shown_table f t)) (shown_table f t)
@@ -359,49 +359,49 @@ kept_all number h (t ∷ tables) same = rw (same t, kept_all number h tables sam
   by_test true = refl
   by_test false = refl
 
-alters : (scripts : Scripts) (past : Past) (f : ℕ → Bool) (x table : ℕ) (o : Option Statement) → CanSee past f → AreSound 0 (length past) (store scripts past) → (f x ≡ true → (name : List ℕ) (column : Column) → o ≡ Some (statements.AddColumn name column) → EachOf table (λ t. f t.maker ≡ true → has_column (shown_columns f t.slots) column.name ≡ false) (store scripts past)) → for_both (stands f x) (altered o table (shown f (store scripts past))) (shown f (store scripts past)) ≡ shown f (with_kept table (kept_slot o x) (store scripts past))
-alters scripts past f x table o can sound absent = by_seen (f x) refl where
-  by_statement : (q : Option Statement) → f x ≡ true → o ≡ q → altered q table (shown f (store scripts past)) ≡ shown f (with_kept table (kept_slot q x) (store scripts past))
-  by_statement None seen is = rw (kept_all table (kept_slot None x) (store scripts past) (λ t. refl)) refl
-  by_statement (Some statements.Begin) seen is = rw (kept_all table (kept_slot (Some statements.Begin) x) (store scripts past) (λ t. refl)) refl
-  by_statement (Some statements.Commit) seen is = rw (kept_all table (kept_slot (Some statements.Commit) x) (store scripts past) (λ t. refl)) refl
-  by_statement (Some statements.Rollback) seen is = rw (kept_all table (kept_slot (Some statements.Rollback) x) (store scripts past) (λ t. refl)) refl
-  by_statement (Some (statements.CreateTable name columns)) seen is = rw (kept_all table (kept_slot (Some (statements.CreateTable name columns)) x) (store scripts past) (λ t. refl)) refl
-  by_statement (Some (statements.Insert name values)) seen is = rw (kept_all table (kept_slot (Some (statements.Insert name values)) x) (store scripts past) (λ t. refl)) refl
-  by_statement (Some (statements.Select name)) seen is = rw (kept_all table (kept_slot (Some (statements.Select name)) x) (store scripts past) (λ t. refl)) refl
-  by_statement (Some (statements.AddColumn name column)) seen is = sym (shown_with f 0 (length past) table (kept_slot (Some (statements.AddColumn name column)) x) (λ (t : Table). after_alteration (alteration column t) t) (store scripts past) (λ t. refl) sound (seen_each f (length past) 0 x table column (store scripts past) seen sound (absent seen name column is)))
+alters : (terms : Terms) (past : Past) (f : ℕ → Bool) (x table : ℕ) (o : Option Statement) → CanSee past f → AreSound 0 (length past) (store terms past) → (f x ≡ true → (name : List ℕ) (column : Column) → o ≡ Some (statements.AddColumn name column) → EachOf table (λ t. f t.maker ≡ true → has_column (shown_columns f t.slots) column.name ≡ false) (store terms past)) → for_both (stands f x) (altered o table (shown f (store terms past))) (shown f (store terms past)) ≡ shown f (with_kept table (kept_slot o x) (store terms past))
+alters terms past f x table o can sound absent = by_seen (f x) refl where
+  by_statement : (q : Option Statement) → f x ≡ true → o ≡ q → altered q table (shown f (store terms past)) ≡ shown f (with_kept table (kept_slot q x) (store terms past))
+  by_statement None seen is = rw (kept_all table (kept_slot None x) (store terms past) (λ t. refl)) refl
+  by_statement (Some statements.Begin) seen is = rw (kept_all table (kept_slot (Some statements.Begin) x) (store terms past) (λ t. refl)) refl
+  by_statement (Some statements.Commit) seen is = rw (kept_all table (kept_slot (Some statements.Commit) x) (store terms past) (λ t. refl)) refl
+  by_statement (Some statements.Rollback) seen is = rw (kept_all table (kept_slot (Some statements.Rollback) x) (store terms past) (λ t. refl)) refl
+  by_statement (Some (statements.CreateTable name columns)) seen is = rw (kept_all table (kept_slot (Some (statements.CreateTable name columns)) x) (store terms past) (λ t. refl)) refl
+  by_statement (Some (statements.Insert name values)) seen is = rw (kept_all table (kept_slot (Some (statements.Insert name values)) x) (store terms past) (λ t. refl)) refl
+  by_statement (Some (statements.Select name)) seen is = rw (kept_all table (kept_slot (Some (statements.Select name)) x) (store terms past) (λ t. refl)) refl
+  by_statement (Some (statements.AddColumn name column)) seen is = sym (shown_with f 0 (length past) table (kept_slot (Some (statements.AddColumn name column)) x) (λ (t : Table). after_alteration (alteration column t) t) (store terms past) (λ t. refl) sound (seen_each f (length past) 0 x table column (store terms past) seen sound (absent seen name column is)))
 
-  by_seen : (b : Bool) → f x ≡ b → for_both (stands f x) (altered o table (shown f (store scripts past))) (shown f (store scripts past)) ≡ shown f (with_kept table (kept_slot o x) (store scripts past))
+  by_seen : (b : Bool) → f x ≡ b → for_both (stands f x) (altered o table (shown f (store terms past))) (shown f (store terms past)) ≡ shown f (with_kept table (kept_slot o x) (store terms past))
   by_seen true seen = rw seen (by_statement o seen refl)
-  by_seen false seen = rw seen (sym (shown_unseen f table (kept_slot o x) (store scripts past) (λ t. (slot_same o x t).1) (unseen_each f (length past) 0 x table o (store scripts past) seen sound)))
+  by_seen false seen = rw seen (sym (shown_unseen f table (kept_slot o x) (store terms past) (λ t. (slot_same o x t).1) (unseen_each f (length past) 0 x table o (store terms past) seen sound)))
 
 -- ---- the theorem
 
-pub serves_all : (scripts : Scripts) (past : Past) (f : ℕ → Bool) → Fits scripts past → CanSee past f → view_by scripts (stands f) past ≡ shown f (store scripts past)
-serves_all scripts [] f fits can = refl
-serves_all scripts (Give s block ∷ past) f fits can = serves_all scripts past f fits (still past _ f (λ z. refl) can)
-serves_all scripts (Start s level ∷ past) f fits can = serves_all scripts past f fits (still past _ f (λ z. refl) can)
-serves_all scripts (Wait x want ∷ past) f fits can = serves_all scripts past f fits (still past _ f (λ z. refl) can)
-serves_all scripts (Lock x table mode ∷ past) f fits can = serves_all scripts past f fits (still past _ f (λ z. refl) can)
-serves_all scripts (Look x ∷ past) f fits can = serves_all scripts past f fits (still past _ f (λ z. refl) can)
-serves_all scripts (Make x table name shape ∷ past) f fits can =
+pub serves_all : (terms : Terms) (past : Past) (f : ℕ → Bool) → Fits terms past → CanSee past f → view_by terms (stands f) past ≡ shown f (store terms past)
+serves_all terms [] f fits can = refl
+serves_all terms (Give s block ∷ past) f fits can = serves_all terms past f fits (still past _ f (λ z. refl) can)
+serves_all terms (Start s level ∷ past) f fits can = serves_all terms past f fits (still past _ f (λ z. refl) can)
+serves_all terms (Wait x want ∷ past) f fits can = serves_all terms past f fits (still past _ f (λ z. refl) can)
+serves_all terms (Lock x table mode ∷ past) f fits can = serves_all terms past f fits (still past _ f (λ z. refl) can)
+serves_all terms (Look x ∷ past) f fits can = serves_all terms past f fits (still past _ f (λ z. refl) can)
+serves_all terms (Make x table name shape ∷ past) f fits can =
     let before : CanSee past f = still past _ f (λ z. refl) can in
-    rw (serves_all scripts past f fits.1 before) (makes scripts past f x table name shape fits.0 before (store_sound scripts past fits.1))
-serves_all scripts (Add x table row ∷ past) f fits can =
+    rw (serves_all terms past f fits.1 before) (makes terms past f x table name shape fits.0 before (store_sound terms past fits.1))
+serves_all terms (Add x table row ∷ past) f fits can =
     let before : CanSee past f = still past _ f (λ z. refl) can in
-    rw (serves_all scripts past f fits.1 before) (adds scripts past f x table row fits.0 before (store_sound scripts past fits.1))
-serves_all scripts (Read x names rows ∷ past) f fits can = serves_all scripts past f fits (still past _ f (λ z. refl) can)
-serves_all scripts (Alter x table statement rewritten ∷ past) f fits can =
+    rw (serves_all terms past f fits.1 before) (adds terms past f x table row fits.0 before (store_sound terms past fits.1))
+serves_all terms (Read x names rows ∷ past) f fits can = serves_all terms past f fits (still past _ f (λ z. refl) can)
+serves_all terms (Alter x table statement rewritten ∷ past) f fits can =
     let before : CanSee past f = still past _ f (λ z. refl) can in
-    let o : Option Statement = statement_of scripts (hand past (session_of past x)) statement in
-    rw (serves_all scripts past f fits.1 before) (alters scripts past f x table o before (store_sound scripts past fits.1) (fits.0.absent f before))
-serves_all scripts (Done s reply ∷ past) f fits can = serves_all scripts past f fits (still past _ f (λ z. refl) can)
-serves_all scripts (Refuse s cause ∷ past) f fits can = serves_all scripts past f fits (still past _ f (λ z. refl) can)
-serves_all scripts (Commit x ∷ past) f fits can = serves_all scripts past f fits.1 (seen_before_commit past x f fits.0 can)
-serves_all scripts (Abort x ∷ past) f fits can = serves_all scripts past f fits.1 (seen_before_abort past x f fits.0 can)
-serves_all scripts (Cancel s ∷ past) f fits can = serves_all scripts past f fits (still past _ f (λ z. refl) can)
-serves_all scripts (End s ∷ past) f fits can = serves_all scripts past f fits (still past _ f (λ z. refl) can)
-serves_all scripts (Close s ∷ past) f fits can = serves_all scripts past f fits (still past _ f (λ z. refl) can)
+    let o : Option Statement = statement_of terms (hand past (session_of past x)) statement in
+    rw (serves_all terms past f fits.1 before) (alters terms past f x table o before (store_sound terms past fits.1) (fits.0.absent f before))
+serves_all terms (Done s reply ∷ past) f fits can = serves_all terms past f fits (still past _ f (λ z. refl) can)
+serves_all terms (Refuse s cause ∷ past) f fits can = serves_all terms past f fits (still past _ f (λ z. refl) can)
+serves_all terms (Commit x ∷ past) f fits can = serves_all terms past f fits.1 (seen_before_commit past x f fits.0 can)
+serves_all terms (Abort x ∷ past) f fits can = serves_all terms past f fits.1 (seen_before_abort past x f fits.0 can)
+serves_all terms (Cancel s ∷ past) f fits can = serves_all terms past f fits (still past _ f (λ z. refl) can)
+serves_all terms (End s ∷ past) f fits can = serves_all terms past f fits (still past _ f (λ z. refl) can)
+serves_all terms (Close s ∷ past) f fits can = serves_all terms past f fits (still past _ f (λ z. refl) can)
 
 -- what a reader sees stands where the journal says
 sees_stands : (past : Past) (reader : Option ℕ) (z : ℕ) → standing past past reader z ≡ stands (sees past reader) z
@@ -423,8 +423,8 @@ may_see past x open_so = record {
   or_true false = refl
 
 -- the latest database of an open transaction, and the committed one, are shown by the one list
-pub latest_shown : (scripts : Scripts) (past : Past) (x : ℕ) → Fits scripts past → fate past x ≡ Open → latest scripts past x ≡ shown (sees past (Some x)) (store scripts past)
-latest_shown scripts past x fits open_so = ap (λ (s : ℕ → Standing). view_by scripts s past) (fun_ext (sees_stands past (Some x))) ∙ serves_all scripts past (sees past (Some x)) fits (may_see past x open_so)
+pub latest_shown : (terms : Terms) (past : Past) (x : ℕ) → Fits terms past → fate past x ≡ Open → latest terms past x ≡ shown (sees past (Some x)) (store terms past)
+latest_shown terms past x fits open_so = ap (λ (s : ℕ → Standing). view_by terms s past) (fun_ext (sees_stands past (Some x))) ∙ serves_all terms past (sees past (Some x)) fits (may_see past x open_so)
 
-pub committed_shown : (scripts : Scripts) (past : Past) → Fits scripts past → committed scripts past ≡ shown (sees past None) (store scripts past)
-committed_shown scripts past fits = ap (λ (s : ℕ → Standing). view_by scripts s past) (fun_ext (sees_stands past None)) ∙ serves_all scripts past (sees past None) fits (record { committed = λ z e. rw e refl; aborted = λ z e. rw e refl })
+pub committed_shown : (terms : Terms) (past : Past) → Fits terms past → committed terms past ≡ shown (sees past None) (store terms past)
+committed_shown terms past fits = ap (λ (s : ℕ → Standing). view_by terms s past) (fun_ext (sees_stands past None)) ∙ serves_all terms past (sees past None) fits (record { committed = λ z e. rw e refl; aborted = λ z e. rw e refl })

@@ -12,7 +12,7 @@ use Rattle.al_history.specs.declared.entry.Entry.TheVariants.{Start, Wait, Lock,
 use Rattle.al_history.specs.declared.entry.Want.{Want}
 use Rattle.al_history.specs.declared.spec.Spec.{Spec}
 use Rattle.al_history.specs.declared.statement.Column.{Column}
-use Rattle.al_history.specs.declared.statement.Scripts.{Scripts}
+use Rattle.al_history.specs.declared.statement.Terms.{Terms}
 use Rattle.al_history.specs.Past.{Past}
 use Rattle.al_history.specs.Fate.{fate}
 use Rattle.al_history.specs.Hand.{hand, closed}
@@ -55,37 +55,37 @@ pub record IsStep (e : Entry) : Type 0 where
   pub fate_same : (past : Past) (y : ℕ) → fate (e ∷ past) y ≡ fate past y
   pub drives_not : (past : Past) → driver (e ∷ past) ≡ driver past
   pub fails_not : (spec : Spec) (past : Past) → failed_setup spec (e ∷ past) ≡ failed_setup spec past
-  pub in_turn : (scripts : Scripts) (past : Past) → IsTurn (owed scripts past) past (made_by past e) → InTurn scripts past e
+  pub in_turn : (terms : Terms) (past : Past) → IsTurn (owed terms past) past (made_by past e) → InTurn terms past e
 
 pub step_start : (s : ℕ) (level : Level) → IsStep (Start s level)
-step_start s level = record { hand_same = λ past r. refl; closed_same = λ past r. refl; fate_same = λ past y. refl; drives_not = λ past. refl; fails_not = λ spec past. refl; in_turn = λ scripts past turn. turn }
+step_start s level = record { hand_same = λ past r. refl; closed_same = λ past r. refl; fate_same = λ past y. refl; drives_not = λ past. refl; fails_not = λ spec past. refl; in_turn = λ terms past turn. turn }
 
 pub step_wait : (x : ℕ) (want : Want) → IsStep (Wait x want)
-step_wait x want = record { hand_same = λ past r. refl; closed_same = λ past r. refl; fate_same = λ past y. refl; drives_not = λ past. refl; fails_not = λ spec past. refl; in_turn = λ scripts past turn. turn }
+step_wait x want = record { hand_same = λ past r. refl; closed_same = λ past r. refl; fate_same = λ past y. refl; drives_not = λ past. refl; fails_not = λ spec past. refl; in_turn = λ terms past turn. turn }
 
 pub step_lock : (x table : ℕ) (mode : Mode) → IsStep (Lock x table mode)
-step_lock x table mode = record { hand_same = λ past r. refl; closed_same = λ past r. refl; fate_same = λ past y. refl; drives_not = λ past. refl; fails_not = λ spec past. refl; in_turn = λ scripts past turn. unless (is_grant past (Lock x table mode)) _ turn }
+step_lock x table mode = record { hand_same = λ past r. refl; closed_same = λ past r. refl; fate_same = λ past y. refl; drives_not = λ past. refl; fails_not = λ spec past. refl; in_turn = λ terms past turn. unless (is_grant past (Lock x table mode)) _ turn }
 
 pub step_look : (x : ℕ) → IsStep (Look x)
-step_look x = record { hand_same = λ past r. refl; closed_same = λ past r. refl; fate_same = λ past y. refl; drives_not = λ past. refl; fails_not = λ spec past. refl; in_turn = λ scripts past turn. turn }
+step_look x = record { hand_same = λ past r. refl; closed_same = λ past r. refl; fate_same = λ past y. refl; drives_not = λ past. refl; fails_not = λ spec past. refl; in_turn = λ terms past turn. turn }
 
 pub step_make : (x table : ℕ) (name : List ℕ) (shape : List Column) → IsStep (Make x table name shape)
-step_make x table name shape = record { hand_same = λ past r. refl; closed_same = λ past r. refl; fate_same = λ past y. refl; drives_not = λ past. refl; fails_not = λ spec past. refl; in_turn = λ scripts past turn. turn }
+step_make x table name shape = record { hand_same = λ past r. refl; closed_same = λ past r. refl; fate_same = λ past y. refl; drives_not = λ past. refl; fails_not = λ spec past. refl; in_turn = λ terms past turn. turn }
 
 pub step_add : (x table : ℕ) (row : List Value) → IsStep (Add x table row)
-step_add x table row = record { hand_same = λ past r. refl; closed_same = λ past r. refl; fate_same = λ past y. refl; drives_not = λ past. refl; fails_not = λ spec past. refl; in_turn = λ scripts past turn. turn }
+step_add x table row = record { hand_same = λ past r. refl; closed_same = λ past r. refl; fate_same = λ past y. refl; drives_not = λ past. refl; fails_not = λ spec past. refl; in_turn = λ terms past turn. turn }
 
 pub step_read : (x : ℕ) (names : List (List ℕ)) (rows : List (List Value)) → IsStep (Read x names rows)
-step_read x names rows = record { hand_same = λ past r. refl; closed_same = λ past r. refl; fate_same = λ past y. refl; drives_not = λ past. refl; fails_not = λ spec past. refl; in_turn = λ scripts past turn. turn }
+step_read x names rows = record { hand_same = λ past r. refl; closed_same = λ past r. refl; fate_same = λ past y. refl; drives_not = λ past. refl; fails_not = λ spec past. refl; in_turn = λ terms past turn. turn }
 
 pub step_alter : (x table statement : ℕ) (rewritten : List Rewritten) → IsStep (Alter x table statement rewritten)
-step_alter x table statement rewritten = record { hand_same = λ past r. refl; closed_same = λ past r. refl; fate_same = λ past y. refl; drives_not = λ past. refl; fails_not = λ spec past. refl; in_turn = λ scripts past turn. turn }
+step_alter x table statement rewritten = record { hand_same = λ past r. refl; closed_same = λ past r. refl; fate_same = λ past y. refl; drives_not = λ past. refl; fails_not = λ spec past. refl; in_turn = λ terms past turn. turn }
 
 -- From one past to another the session's statement went on, by so many entries of a row; nothing is owed, and it can go on.
-pub record Stage (scripts : Scripts) (s : ℕ) (old new : Past) (rows : ℕ) : Type 0 where
-  pub legal : Legal scripts new
+pub record Stage (terms : Terms) (s : ℕ) (old new : Past) (rows : ℕ) : Type 0 where
+  pub legal : Legal terms new
   pub settled : is_settled new ≡ true
-  pub owed_is : owed scripts new ≡ None
+  pub owed_is : owed terms new ≡ None
   pub extends : Extends s old new
   pub hands : (r : ℕ) → hand new r ≡ hand old r
   pub others : (r : ℕ) → (s == r) ≡ false → doing new r ≡ doing old r
@@ -95,10 +95,10 @@ pub record Stage (scripts : Scripts) (s : ℕ) (old new : Past) (rows : ℕ) : T
   pub failed : (spec : Spec) → failed_setup spec new ≡ failed_setup spec old
   pub rows_is : row_entries new ≡ row_entries old + rows
   pub least : IsLeast old s → IsLeast new s
-  pub in_turn : IsLeast old s → Driven scripts old → Driven scripts new
+  pub in_turn : IsLeast old s → Driven terms old → Driven terms new
 
-pub stage_begins : (scripts : Scripts) (s : ℕ) (past : Past) → Legal scripts past → is_settled past ≡ true → owed scripts past ≡ None → Stage scripts s past past 0
-stage_begins scripts s past legal settled none = record {
+pub stage_begins : (terms : Terms) (s : ℕ) (past : Past) → Legal terms past → is_settled past ≡ true → owed terms past ≡ None → Stage terms s past past 0
+stage_begins terms s past legal settled none = record {
   legal = legal;
   settled = settled;
   owed_is = none;
@@ -115,9 +115,9 @@ stage_begins scripts s past legal settled none = record {
 }
 
 -- one entry more, after which the session can go on
-pub stage_on : (scripts : Scripts) (s : ℕ) (old mid : Past) (rows more : ℕ) (e : Entry) → Stage scripts s old mid rows → IsStep e → IsBy mid s e → MayCome scripts mid e → is_settled (e ∷ mid) ≡ true → owed scripts (e ∷ mid) ≡ None → can_go_on (e ∷ mid) s ≡ true → row_entries (e ∷ mid) ≡ row_entries mid + more → Stage scripts s old (e ∷ mid) (rows + more)
-stage_on scripts s old mid rows more e st step by comes settled none goes one =
-    let others : (r : ℕ) → (s == r) ≡ false → doing (e ∷ mid) r ≡ doing mid r = λ r other. others_stay scripts mid s r st.legal other e by in
+pub stage_on : (terms : Terms) (s : ℕ) (old mid : Past) (rows more : ℕ) (e : Entry) → Stage terms s old mid rows → IsStep e → IsBy mid s e → MayCome terms mid e → is_settled (e ∷ mid) ≡ true → owed terms (e ∷ mid) ≡ None → can_go_on (e ∷ mid) s ≡ true → row_entries (e ∷ mid) ≡ row_entries mid + more → Stage terms s old (e ∷ mid) (rows + more)
+stage_on terms s old mid rows more e st step by comes settled none goes one =
+    let others : (r : ℕ) → (s == r) ≡ false → doing (e ∷ mid) r ≡ doing mid r = λ r other. others_stay terms mid s r st.legal other e by in
     record {
       legal = (comes, st.legal);
       settled = settled;
@@ -131,15 +131,15 @@ stage_on scripts s old mid rows more e st step by comes settled none goes one =
       failed = λ spec. step.fails_not spec mid ∙ st.failed spec;
       rows_is = omega (arith, one, st.rows_is);
       least = λ least. least_stays mid (e ∷ mid) settled (step.fate_same mid) s (λ r other. (ap (λ (d : Doing). d.hand) (others r other), ap (λ (d : Doing). d.wants) (others r other))) goes (st.least least);
-      in_turn = λ least d. (step.in_turn scripts mid (rw (st.owed_is, made_so mid s e by) (st.least least)), st.in_turn least d);
+      in_turn = λ least d. (step.in_turn terms mid (rw (st.owed_is, made_so mid s e by) (st.least least)), st.in_turn least d);
     }
 
 -- ---- what a call did
 
 -- From one past to another a call went on with the session's step: it tells whether the step was refused, and what the driver has
 -- done by then.
-pub record Went (scripts : Scripts) (s : ℕ) (old new : Past) (refused : Bool) (drove : List Entry) (turn : Type 0) : Type 0 where
-  pub legal : Legal scripts new
+pub record Went (terms : Terms) (s : ℕ) (old new : Past) (refused : Bool) (drove : List Entry) (turn : Type 0) : Type 0 where
+  pub legal : Legal terms new
   pub extends : Extends s old new
   pub more : length old < length new
   pub hands : (r : ℕ) → (s == r) ≡ false → hand new r ≡ hand old r
@@ -149,14 +149,14 @@ pub record Went (scripts : Scripts) (s : ℕ) (old new : Past) (refused : Bool) 
   pub driven : driver new ≡ drove
   pub failed : (spec : Spec) → failed_setup spec new ≡ cond refused (or_else (failed_setup spec old) (of_setup spec (hand old s))) (failed_setup spec old)
   pub one_row : row_entries new ≤ row_entries old + 1
-  pub in_turn : turn → Driven scripts old → Driven scripts new
+  pub in_turn : turn → Driven terms old → Driven terms new
 
 unrefused : ◌≡◌ {A = Bool} false true → ⊥
 unrefused wrong = cc
 
 -- a stage, of which the session's step is in hand still
-pub stage_went : (scripts : Scripts) (s : ℕ) (old new : Past) (rows : ℕ) → Stage scripts s old new rows → rows ≤ 1 → length old < length new → Went scripts s old new false (driver old) (IsLeast old s)
-stage_went scripts s old new rows st few more = record {
+pub stage_went : (terms : Terms) (s : ℕ) (old new : Past) (rows : ℕ) → Stage terms s old new rows → rows ≤ 1 → length old < length new → Went terms s old new false (driver old) (IsLeast old s)
+stage_went terms s old new rows st few more = record {
   legal = st.legal;
   extends = st.extends;
   more = more;
@@ -171,8 +171,8 @@ stage_went scripts s old new rows st few more = record {
 }
 
 -- a stage, and then a Wait
-pub wait_went : (scripts : Scripts) (s : ℕ) (old mid : Past) (rows x : ℕ) (want : Want) → Stage scripts s old mid rows → rows ≤ 1 → length old ≤ length mid → IsBy mid s (Wait x want) → MayCome scripts mid (Wait x want) → Went scripts s old (Wait x want ∷ mid) false (driver old) (IsLeast old s)
-wait_went scripts s old mid rows x want st few more by comes =
+pub wait_went : (terms : Terms) (s : ℕ) (old mid : Past) (rows x : ℕ) (want : Want) → Stage terms s old mid rows → rows ≤ 1 → length old ≤ length mid → IsBy mid s (Wait x want) → MayCome terms mid (Wait x want) → Went terms s old (Wait x want ∷ mid) false (driver old) (IsLeast old s)
+wait_went terms s old mid rows x want st few more by comes =
     let step = step_wait x want in
     record {
       legal = (comes, st.legal);
@@ -213,8 +213,8 @@ pub tail_end : (s : ℕ) → IsTail (End s)
 tail_end s = record { closed_same = λ past r. refl; drives_not = λ past. refl; fails_not = λ spec past. refl; rows_not = λ past. refl }
 
 -- A call has come into the tail of the session's statement.
-pub record Tail (scripts : Scripts) (s : ℕ) (old new : Past) (refused : Bool) (drove : List Entry) (turn : Type 0) : Type 0 where
-  pub legal : Legal scripts new
+pub record Tail (terms : Terms) (s : ℕ) (old new : Past) (refused : Bool) (drove : List Entry) (turn : Type 0) : Type 0 where
+  pub legal : Legal terms new
   pub extends : Extends s old new
   pub more : length old < length new
   pub hands : (r : ℕ) → hand new r ≡ hand old r
@@ -222,11 +222,11 @@ pub record Tail (scripts : Scripts) (s : ℕ) (old new : Past) (refused : Bool) 
   pub driven : driver new ≡ drove
   pub failed : (spec : Spec) → failed_setup spec new ≡ cond refused (or_else (failed_setup spec old) (of_setup spec (hand old s))) (failed_setup spec old)
   pub one_row : row_entries new ≤ row_entries old + 1
-  pub in_turn : turn → Driven scripts old → Driven scripts new
+  pub in_turn : turn → Driven terms old → Driven terms new
 
 -- it begins by a Done, a Commit or an Abort after a stage
-pub tail_begins : (scripts : Scripts) (s : ℕ) (old mid : Past) (rows : ℕ) (e : Entry) → Stage scripts s old mid rows → rows ≤ 1 → length old ≤ length mid → IsTail e → ((past : Past) (r : ℕ) → hand (e ∷ past) r ≡ hand past r) → IsBy mid s e → MayCome scripts mid e → (IsLeast mid s → InTurn scripts mid e) → Tail scripts s old (e ∷ mid) false (driver old) (IsLeast old s)
-tail_begins scripts s old mid rows e st few more tail hand_same by comes turn = record {
+pub tail_begins : (terms : Terms) (s : ℕ) (old mid : Past) (rows : ℕ) (e : Entry) → Stage terms s old mid rows → rows ≤ 1 → length old ≤ length mid → IsTail e → ((past : Past) (r : ℕ) → hand (e ∷ past) r ≡ hand past r) → IsBy mid s e → MayCome terms mid e → (IsLeast mid s → InTurn terms mid e) → Tail terms s old (e ∷ mid) false (driver old) (IsLeast old s)
+tail_begins terms s old mid rows e st few more tail hand_same by comes turn = record {
   legal = (comes, st.legal);
   extends = extends_on s old mid (e ∷ mid) st.extends (extends_by s mid e (inl (made_so mid s e by)));
   more = omega (arith, more);
@@ -239,8 +239,8 @@ tail_begins scripts s old mid rows e st few more tail hand_same by comes turn = 
 }
 
 -- or by a Refuse
-pub tail_refuses : (scripts : Scripts) (s : ℕ) (old mid : Past) (rows : ℕ) (cause : Cause) → Stage scripts s old mid rows → rows ≤ 1 → length old ≤ length mid → MayCome scripts mid (Refuse s cause) → Tail scripts s old (Refuse s cause ∷ mid) true (driver old) (IsLeast old s)
-tail_refuses scripts s old mid rows cause st few more comes = record {
+pub tail_refuses : (terms : Terms) (s : ℕ) (old mid : Past) (rows : ℕ) (cause : Cause) → Stage terms s old mid rows → rows ≤ 1 → length old ≤ length mid → MayCome terms mid (Refuse s cause) → Tail terms s old (Refuse s cause ∷ mid) true (driver old) (IsLeast old s)
+tail_refuses terms s old mid rows cause st few more comes = record {
   legal = (comes, st.legal);
   extends = extends_on s old mid (Refuse s cause ∷ mid) st.extends (extends_by s mid (Refuse s cause) (inl refl));
   more = omega (arith, more);
@@ -253,8 +253,8 @@ tail_refuses scripts s old mid rows cause st few more comes = record {
 }
 
 -- it goes on by an entry of the session that is owed, or by a lock that is granted
-pub tail_on : (scripts : Scripts) (s : ℕ) (old mid : Past) (refused : Bool) (drove : List Entry) (turn : Type 0) (e : Entry) → Tail scripts s old mid refused drove turn → IsTail e → ((past : Past) (r : ℕ) → hand (e ∷ past) r ≡ hand past r) → (made_by mid e ≡ s) ⊎ (is_grant mid e ≡ true) → MayCome scripts mid e → InTurn scripts mid e → Tail scripts s old (e ∷ mid) refused drove turn
-tail_on scripts s old mid refused drove turn e t tail hand_same by comes in_turn = record {
+pub tail_on : (terms : Terms) (s : ℕ) (old mid : Past) (refused : Bool) (drove : List Entry) (turn : Type 0) (e : Entry) → Tail terms s old mid refused drove turn → IsTail e → ((past : Past) (r : ℕ) → hand (e ∷ past) r ≡ hand past r) → (made_by mid e ≡ s) ⊎ (is_grant mid e ≡ true) → MayCome terms mid e → InTurn terms mid e → Tail terms s old (e ∷ mid) refused drove turn
+tail_on terms s old mid refused drove turn e t tail hand_same by comes in_turn = record {
   legal = (comes, t.legal);
   extends = extends_on s old mid (e ∷ mid) t.extends (extends_by s mid e by);
   more = omega (arith, t.more);
@@ -267,8 +267,8 @@ tail_on scripts s old mid refused drove turn e t tail hand_same by comes in_turn
 }
 
 -- and ends with the End of the step
-pub tail_ends : (scripts : Scripts) (s : ℕ) (old mid : Past) (refused : Bool) (drove : List Entry) (turn : Type 0) → Tail scripts s old mid refused drove turn → MayCome scripts mid (End s) → InTurn scripts mid (End s) → Went scripts s old (End s ∷ mid) refused drove turn
-tail_ends scripts s old mid refused drove turn t comes in_turn =
+pub tail_ends : (terms : Terms) (s : ℕ) (old mid : Past) (refused : Bool) (drove : List Entry) (turn : Type 0) → Tail terms s old mid refused drove turn → MayCome terms mid (End s) → InTurn terms mid (End s) → Went terms s old (End s ∷ mid) refused drove turn
+tail_ends terms s old mid refused drove turn t comes in_turn =
     let same : (s == s) ≡ true = if_same s in
     record {
       legal = (comes, t.legal);

@@ -15,7 +15,7 @@ use Rattle.al_history.specs.declared.statement.Column.{Column}
 use Rattle.al_history.specs.declared.statement.Statement.{Statement}
 use Rattle.al_history.specs.declared.statement.Statement.TheVariants as statements
 use Rattle.al_history.specs.declared.statement.ScriptBlock.{ScriptBlock}
-use Rattle.al_history.specs.declared.statement.Scripts.{Scripts}
+use Rattle.al_history.specs.declared.statement.Terms.{Terms}
 use Rattle.al_history.specs.Past.{Past}
 use Rattle.al_history.specs.Hand.{hand, closed}
 use Rattle.al_history.specs.View.{committed}
@@ -64,20 +64,24 @@ select = statements.Select name_t
 abbrev pub alone : ℕ → Statement → ScriptBlock
 alone s statement = record { session = s; script = statement ∷ [] }
 
+-- these blocks for so many sessions, whose journal may weigh 100
+abbrev pub terms_of : ℕ → List ScriptBlock → Terms
+terms_of sessions blocks = record { scripts = record { sessions = sessions; blocks = blocks }; weight = 100 }
+
 -- two sessions: block 0 makes the table, and more blocks follow it
-abbrev pub scripts_with : List ScriptBlock → Scripts
-scripts_with more = record { sessions = 2; blocks = alone 0 create ∷ more }
+abbrev pub terms_with : List ScriptBlock → Terms
+terms_with more = terms_of 2 (alone 0 create ∷ more)
 
 -- block 1 adds its row, and more blocks follow it
-abbrev pub filled_with : List ScriptBlock → Scripts
-filled_with more = scripts_with (alone 0 insert ∷ more)
+abbrev pub filled_with : List ScriptBlock → Terms
+filled_with more = terms_with (alone 0 insert ∷ more)
 
 -- two setup blocks, and two steps of session 1
 abbrev pub steps : List ScriptBlock
 steps = alone 1 add_column ∷ alone 1 select ∷ []
 
-abbrev pub scripts : Scripts
-scripts = filled_with steps
+abbrev pub terms : Terms
+terms = filled_with steps
 
 -- a spec of one session, with two setup blocks and two steps: these are the texts of the second block and the first step
 abbrev pub spec_with : List ℕ → List ℕ → Spec
@@ -149,7 +153,7 @@ abbrev pub journal : List Entry
 journal = ended_select ++ Close 1 ∷ Close 0 ∷ []
 
 -- a table is made in a step of its own, whatever blocks follow
-pub create_is_legal : (more : List ScriptBlock) → IsLegal (scripts_with more) ended_create
+pub create_is_legal : (more : List ScriptBlock) → IsLegal (terms_with more) ended_create
 create_is_legal more =
     tt
     ▸ may_give (omega arith) refl refl refl refl tt
@@ -174,7 +178,7 @@ insert_is_legal more =
     ▸ may_end refl (inl refl) refl refl refl
 
 -- another session adds a column
-pub alter_is_legal : IsLegal scripts ended_alter
+pub alter_is_legal : IsLegal terms ended_alter
 alter_is_legal =
     insert_is_legal steps
     ▸ may_give (omega arith) refl refl refl refl tt
@@ -187,7 +191,7 @@ alter_is_legal =
     ▸ may_end refl (inl refl) refl refl refl
 
 -- and reads the row with the default in the new column
-pub select_is_legal : IsLegal scripts ended_select
+pub select_is_legal : IsLegal terms ended_select
 select_is_legal =
     alter_is_legal
     ▸ may_give (omega arith) refl refl refl refl tt
@@ -200,7 +204,7 @@ select_is_legal =
     ▸ may_end refl (inl refl) refl refl refl
 
 -- the whole journal is legal
-pub journal_is_legal : IsLegal scripts journal
+pub journal_is_legal : IsLegal terms journal
 journal_is_legal =
     select_is_legal
     ▸ may_close (omega arith) refl refl refl refl tt
@@ -215,7 +219,7 @@ pub none_failed : failed_setup spec (reverse journal) ≡ None
 none_failed = refl
 
 -- what is committed at its end: the table with its two columns, and its one row
-pub committed_at_end : committed scripts (reverse journal) ≡ record { number = 3; name = name_t; columns = column_a ∷ column_b ∷ []; constraints = []; rows = record { number = 11; version = 11; values = int 1 ∷ int 5 ∷ [] } ∷ [] } ∷ []
+pub committed_at_end : committed terms (reverse journal) ≡ record { number = 3; name = name_t; columns = column_a ∷ column_b ∷ []; constraints = []; rows = record { number = 11; version = 11; values = int 1 ∷ int 5 ∷ [] } ∷ [] } ∷ []
 committed_at_end = refl
 
 -- no session has a step in hand
@@ -259,7 +263,7 @@ rest_after_alter : IsAtRest (reverse ended_alter)
 rest_after_alter r = at_rest (reverse ended_insert) 1 2 rest_after_insert r
 
 -- the first setup block is given at rest, and each entry of it is of the control session
-pub driven_create : (more : List ScriptBlock) → Driven (scripts_with more) (reverse ended_create)
+pub driven_create : (more : List ScriptBlock) → Driven (terms_with more) (reverse ended_create)
 driven_create more = in_turn_seven tt tt (refl, none_below _) (refl, none_below _) (refl, none_below _) (refl, none_below _) (idle [] rest_at_first) tt
 
 -- so is the second
@@ -267,11 +271,11 @@ pub driven_insert : (more : List ScriptBlock) → Driven (filled_with more) (rev
 driven_insert more = in_turn_eight tt tt (refl, none_below _) (refl, none_below _) (refl, none_below _) (refl, none_below _) (refl, none_below _) (idle (reverse ended_create) rest_after_create) (driven_create (alone 0 insert ∷ more))
 
 -- so is the first step, whose entries are of session 1
-driven_alter : Driven scripts (reverse ended_alter)
+driven_alter : Driven terms (reverse ended_alter)
 driven_alter = in_turn_eight tt tt (refl, zero_below _ refl) (refl, zero_below _ refl) (refl, zero_below _ refl) (refl, zero_below _ refl) (refl, zero_below _ refl) (idle (reverse ended_insert) rest_after_insert) (driven_insert steps)
 
 -- and the second step
-driven_select : Driven scripts (reverse ended_select)
+driven_select : Driven terms (reverse ended_select)
 driven_select = in_turn_eight tt tt (refl, zero_below _ refl) (refl, zero_below _ refl) (refl, zero_below _ refl) (refl, zero_below _ refl) (refl, zero_below _ refl) (idle (reverse ended_alter) rest_after_alter) driven_alter
 
 -- both sessions are closed at its end
@@ -281,5 +285,5 @@ both_closed (suc zero) le = refl
 both_closed (suc (suc s)) le = absurd (omega arith)
 
 -- the journal is that of a whole run of its permutation
-pub journal_is_whole : IsWhole spec scripts (2 ∷ 3 ∷ []) (reverse journal)
+pub journal_is_whole : IsWhole spec terms (2 ∷ 3 ∷ []) (reverse journal)
 journal_is_whole = record { as_due = (refl, (refl, (refl, (refl, (refl, (refl, tt)))))); in_turn = (tt, (tt, driven_select)); all_done = refl; all_closed = both_closed }

@@ -8,15 +8,15 @@ use Rattle.al_history.specs.declared.entry.Cause.TheVariants as causes
 use Rattle.al_history.specs.declared.entry.Entry.{Entry}
 use Rattle.al_history.specs.declared.entry.Entry.TheVariants.{Give, Start, Look, Make, Done, Refuse, Commit, Abort, Cancel, End, Close}
 use Rattle.al_history.specs.declared.statement.Statement.TheVariants as statements
-use Rattle.al_history.specs.declared.statement.Scripts.{Scripts}
+use Rattle.al_history.specs.declared.statement.Terms.{Terms}
 use Rattle.al_history.specs.View.{committed}
 use Rattle.al_history.specs.Legal.{IsLegal}
-use Rattle.al_history.proofs.Vectors.{name_t, name_a, column_a, insert, alone}
+use Rattle.al_history.proofs.Vectors.{terms_of, name_t, name_a, column_a, insert, alone}
 use Rattle.al_history.proofs.VectorsRules.{◌▸◌, commits, rolls_back, may_give, may_start, may_look, may_act, may_make, may_be_done, may_refuse, may_abort, may_cancel, may_end, may_close, false_true, some_none}
 
 -- blocks of session 1: BEGIN, CREATE TABLE t (a integer), COMMIT, ROLLBACK, and an INSERT of t
-abbrev blocks : Scripts
-blocks = record { sessions = 2; blocks = alone 1 statements.Begin ∷ alone 1 (statements.CreateTable name_t (name_a ∷ [])) ∷ alone 1 statements.Commit ∷ alone 1 statements.Rollback ∷ alone 1 insert ∷ [] }
+abbrev blocks : Terms
+blocks = terms_of 2 (alone 1 statements.Begin ∷ alone 1 (statements.CreateTable name_t (name_a ∷ [])) ∷ alone 1 statements.Commit ∷ alone 1 statements.Rollback ∷ alone 1 insert ∷ [])
 
 abbrev begun : List Entry
 begun = Give 1 0 ∷ Start 1 levels.ReadCommitted ∷ Done 1 (replies.Tag tags.Begin 0) ∷ End 1 ∷ []

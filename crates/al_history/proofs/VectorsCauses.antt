@@ -12,12 +12,12 @@ use Rattle.al_history.specs.declared.entry.Entry.TheVariants.{Give, Start, Lock,
 use Rattle.al_history.specs.declared.spec.Spec.{Spec}
 use Rattle.al_history.specs.declared.statement.Statement.{Statement}
 use Rattle.al_history.specs.declared.statement.Statement.TheVariants as statements
-use Rattle.al_history.specs.declared.statement.Scripts.{Scripts}
+use Rattle.al_history.specs.declared.statement.Terms.{Terms}
 use Rattle.al_history.specs.Hand.{closed}
 use Rattle.al_history.specs.View.{latest, committed}
 use Rattle.al_history.specs.Legal.{IsLegal}
 use Rattle.al_history.specs.Whole.{IsWhole, failed_setup}
-use Rattle.al_history.proofs.Vectors.{name_t, name_a, name_b, int, column_a, insert, add_column, select, alone, steps, scripts_with, spec_with, ended_create, create_is_legal, none_below, idle, rest_after_create, driven_create}
+use Rattle.al_history.proofs.Vectors.{terms_of, name_t, name_a, name_b, int, column_a, insert, add_column, select, alone, steps, terms_with, spec_with, ended_create, create_is_legal, none_below, idle, rest_after_create, driven_create}
 use Rattle.al_history.proofs.VectorsRules.{◌▸◌, in_turn_six, may_give, may_start, may_lock, may_look, may_act, may_make, may_add, may_be_done, may_refuse, may_commit, may_abort, may_end, may_close}
 
 -- the name u
@@ -25,16 +25,16 @@ abbrev pub name_u : List ℕ
 name_u = codes "u"
 
 -- two sessions, and one block
-abbrev pub one_block : Statement → Scripts
-one_block statement = record { sessions = 2; blocks = alone 0 statement ∷ [] }
+abbrev pub one_block : Statement → Terms
+one_block statement = terms_of 2 (alone 0 statement ∷ [])
 
 -- CREATE TABLE t (b integer)
 abbrev pub create_again : Statement
 create_again = statements.CreateTable name_t (name_b ∷ [])
 
 -- its block is the second setup block
-abbrev pub again : Scripts
-again = scripts_with (alone 0 create_again ∷ steps)
+abbrev pub again : Terms
+again = terms_with (alone 0 create_again ∷ steps)
 
 abbrev pub spec_again : Spec
 spec_again = spec_with (codes "CREATE TABLE t (b integer)") (codes "ALTER TABLE t ADD COLUMN b integer DEFAULT 5;")
@@ -112,8 +112,8 @@ created_twice_is_legal =
 abbrev pub add_again : Statement
 add_again = statements.AddColumn name_t column_a
 
-abbrev pub added_again : Scripts
-added_again = scripts_with (alone 1 add_again ∷ [])
+abbrev pub added_again : Terms
+added_again = terms_with (alone 1 add_again ∷ [])
 
 abbrev pub looked_added : List Entry
 looked_added = ended_create ++ Give 1 1 ∷ Start 1 levels.ReadCommitted ∷ Lock 8 3 AccessExclusive ∷ Look 8 ∷ []
@@ -170,8 +170,8 @@ alter_nowhere_is_legal =
 abbrev pub insert_two : Statement
 insert_two = statements.Insert name_t (int 1 ∷ int 5 ∷ [])
 
-abbrev pub counted : Scripts
-counted = scripts_with (alone 0 insert_two ∷ [])
+abbrev pub counted : Terms
+counted = terms_with (alone 0 insert_two ∷ [])
 
 abbrev pub looked_counted : List Entry
 looked_counted = ended_create ++ Give 0 1 ∷ Start 0 levels.ReadCommitted ∷ Lock 8 3 RowExclusive ∷ Look 8 ∷ []
@@ -192,8 +192,8 @@ count_is_legal =
 abbrev pub create_two : Statement
 create_two = statements.CreateTable name_t (name_a ∷ name_b ∷ [])
 
-abbrev pub pair : Statement → Scripts
-pair second = record { sessions = 2; blocks = record { session = 0; script = create_two ∷ second ∷ [] } ∷ [] }
+abbrev pub pair : Statement → Terms
+pair second = terms_of 2 (record { session = 0; script = create_two ∷ second ∷ [] } ∷ [])
 
 abbrev pub made_two : List Entry
 made_two = looked_twice ++ Make 1 3 name_t (column_a ∷ record { name = name_b; default = values.Null } ∷ []) ∷ []

@@ -12,12 +12,12 @@ use Rattle.al_history.specs.declared.entry.Entry.{Entry}
 use Rattle.al_history.specs.declared.entry.Entry.TheVariants.{Give, Start, Wait, Lock, Look, Make, Add, Read, Alter, Done, Refuse, Commit, Abort, Cancel, End}
 use Rattle.al_history.specs.declared.statement.Statement.{Statement}
 use Rattle.al_history.specs.declared.statement.Statement.TheVariants as statements
-use Rattle.al_history.specs.declared.statement.Scripts.{Scripts}
+use Rattle.al_history.specs.declared.statement.Terms.{Terms}
 use Rattle.al_history.specs.Locks.{Claim, held, waiting}
 use Rattle.al_history.specs.Waits.{is_blocked, can_go_on}
 use Rattle.al_history.specs.Alone.{sole_user}
 use Rattle.al_history.specs.Legal.{IsLegal}
-use Rattle.al_history.proofs.Vectors.{name_t, name_a, name_b, int, column_a, column_b, create, insert, add_column, select, alone}
+use Rattle.al_history.proofs.Vectors.{terms_of, name_t, name_a, name_b, int, column_a, column_b, create, insert, add_column, select, alone}
 use Rattle.al_history.proofs.VectorsCauses.{name_u}
 use Rattle.al_history.proofs.VectorsRules.{◌▸◌, commits, rolls_back, may_give, may_start, may_wait_for_lock, may_lock, may_be_granted, may_look, may_act, may_make, may_add, may_read, may_alter, may_be_done, may_refuse, may_commit, may_abort, may_cancel, may_end}
 
@@ -33,26 +33,23 @@ select_u = statements.Select name_u
 
 -- Four sessions. Block 0 makes t and u, and a row of t. Blocks 1 to 4 are BEGIN, COMMIT, ROLLBACK and an ALTER TABLE of t in
 -- session 1; blocks 5 and 6 read t in sessions 2 and 3. The last alters u and then reads t.
-abbrev pub locks : Scripts
-locks = record {
-  sessions = 4;
-  blocks =
-      record { session = 0; script = create ∷ create_u ∷ insert ∷ [] }
-      ∷ alone 1 statements.Begin
-      ∷ alone 1 statements.Commit
-      ∷ alone 1 statements.Rollback
-      ∷ alone 1 add_column
-      ∷ alone 2 select
-      ∷ alone 3 select
-      ∷ alone 1 add_column_u
-      ∷ alone 2 select_u
-      ∷ alone 1 insert
-      ∷ alone 2 insert
-      ∷ alone 1 select
-      ∷ alone 2 add_column
-      ∷ record { session = 2; script = add_column_u ∷ select ∷ [] }
-      ∷ [];
-}
+abbrev pub locks : Terms
+locks = terms_of 4 (
+    record { session = 0; script = create ∷ create_u ∷ insert ∷ [] }
+    ∷ alone 1 statements.Begin
+    ∷ alone 1 statements.Commit
+    ∷ alone 1 statements.Rollback
+    ∷ alone 1 add_column
+    ∷ alone 2 select
+    ∷ alone 3 select
+    ∷ alone 1 add_column_u
+    ∷ alone 2 select_u
+    ∷ alone 1 insert
+    ∷ alone 2 insert
+    ∷ alone 1 select
+    ∷ alone 2 add_column
+    ∷ record { session = 2; script = add_column_u ∷ select ∷ [] }
+    ∷ [])
 
 -- a lock of a session, or its request for one
 abbrev pub of : ℕ → ℕ → Mode → Claim

@@ -11,11 +11,11 @@ use Rattle.al_history.specs.declared.entry.Entry.{Entry}
 use Rattle.al_history.specs.declared.entry.Entry.TheVariants.{Give, Start, Wait, Lock, Look, Make, Read, Done, Refuse, Commit, Abort, Cancel, End}
 use Rattle.al_history.specs.declared.statement.Statement.{Statement}
 use Rattle.al_history.specs.declared.statement.Statement.TheVariants as statements
-use Rattle.al_history.specs.declared.statement.Scripts.{Scripts}
+use Rattle.al_history.specs.declared.statement.Terms.{Terms}
 use Rattle.al_history.specs.Locks.{waiting}
 use Rattle.al_history.specs.Waits.{is_blocked, can_go_on}
 use Rattle.al_history.specs.Legal.{IsLegal}
-use Rattle.al_history.proofs.Vectors.{name_t, name_a, name_b, column_a, create, alone}
+use Rattle.al_history.proofs.Vectors.{terms_of, name_t, name_a, name_b, column_a, create, alone}
 use Rattle.al_history.proofs.VectorsCauses.{name_u}
 use Rattle.al_history.proofs.VectorsRules.{false_true, none_some, some_none, differ, ◌▸◌, commits, rolls_back, may_give, may_start, may_wait_for_end, may_look, may_act, may_make, may_be_done, may_refuse, may_commit, may_abort, may_cancel, may_end}
 
@@ -28,20 +28,17 @@ create_twice = statements.CreateTable name_u (name_b ∷ name_b ∷ [])
 
 -- BEGIN, CREATE TABLE u, COMMIT and ROLLBACK in session 1; CREATE TABLE u, the one with a column twice, a SELECT of u, and
 -- CREATE TABLE t in session 2
-abbrev names : Scripts
-names = record {
-  sessions = 3;
-  blocks =
-      alone 1 statements.Begin
-      ∷ alone 1 create_u
-      ∷ alone 1 statements.Commit
-      ∷ alone 1 statements.Rollback
-      ∷ alone 2 create_u
-      ∷ alone 2 create_twice
-      ∷ alone 2 (statements.Select name_u)
-      ∷ alone 2 create
-      ∷ [];
-}
+abbrev names : Terms
+names = terms_of 3 (
+    alone 1 statements.Begin
+    ∷ alone 1 create_u
+    ∷ alone 1 statements.Commit
+    ∷ alone 1 statements.Rollback
+    ∷ alone 2 create_u
+    ∷ alone 2 create_twice
+    ∷ alone 2 (statements.Select name_u)
+    ∷ alone 2 create
+    ∷ [])
 
 -- Session 1 makes the table in a block.
 abbrev taken : List Entry

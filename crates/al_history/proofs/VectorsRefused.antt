@@ -10,14 +10,14 @@ use Rattle.al_history.specs.declared.entry.Cause.TheVariants as causes
 use Rattle.al_history.specs.declared.entry.Entry.TheVariants.{Give, Start, Look, Make, Add, Done, Refuse, Commit, Abort, End}
 use Rattle.al_history.specs.declared.statement.Statement.{Statement}
 use Rattle.al_history.specs.declared.statement.Statement.TheVariants as statements
-use Rattle.al_history.specs.declared.statement.Scripts.{Scripts}
+use Rattle.al_history.specs.declared.statement.Terms.{Terms}
 use Rattle.al_history.specs.Legal.{IsLegal}
 use Rattle.al_history.proofs.VectorsRules.{none_some, some_none}
-use Rattle.al_history.proofs.Vectors.{name_t, name_a, name_b, int, column_a, insert, alone, scripts, scripts_with, looked_create, acted_create, done_create, ended_create}
+use Rattle.al_history.proofs.Vectors.{name_t, name_a, name_b, int, column_a, insert, alone, terms, terms_with, looked_create, acted_create, done_create, ended_create}
 use Rattle.al_history.proofs.VectorsCauses.{name_u, one_block, again, looked_again, refused_again, create_twice, looked_twice, started_one, counted, looked_counted}
 
 -- a statement is refused for a cause that isn't true
-refused_for_nothing : IsLegal scripts (looked_create ++ Refuse 0 (causes.TwiceTable name_t) ∷ []) → ⊥
+refused_for_nothing : IsLegal terms (looked_create ++ Refuse 0 (causes.TwiceTable name_t) ∷ []) → ⊥
 refused_for_nothing l = none_some l.0.rule.first_true
 
 -- the first byte of the name that a cause tells
@@ -28,6 +28,7 @@ letter (Some (causes.TwiceTable name)) = slice_index name 0
 letter (Some (causes.TwiceColumn name)) = slice_index name 0
 letter (Some (causes.Count want got)) = 0
 letter (Some (causes.BlockFailed refuse)) = 0
+letter (Some (causes.Limit what count)) = 0
 letter (Some (causes.Cancelled entry)) = 0
 
 -- a statement is refused for a name that isn't the one in the way
@@ -38,8 +39,8 @@ refused_for_other_name l = let told : ◌≡◌ {A = ℕ} 116 117 = ap letter l.
 abbrev pub create_both : Statement
 create_both = statements.CreateTable name_t (name_b ∷ name_b ∷ [])
 
-abbrev pub both : Scripts
-both = scripts_with (alone 0 create_both ∷ [])
+abbrev pub both : Terms
+both = terms_with (alone 0 create_both ∷ [])
 
 -- the column is told where the table comes first
 later_cause : IsLegal both (looked_again ++ Refuse 0 (causes.TwiceColumn name_b) ∷ []) → ⊥
@@ -66,7 +67,7 @@ refused_elsewhere : IsLegal again (looked_again ++ Refuse 1 (causes.TwiceTable n
 refused_elsewhere l = none_some l.0.rule.first_true
 
 -- a statement is refused that has acted
-refused_after_act : IsLegal scripts (acted_create ++ Refuse 0 (causes.TwiceTable name_t) ∷ []) → ⊥
+refused_after_act : IsLegal terms (acted_create ++ Refuse 0 (causes.TwiceTable name_t) ∷ []) → ⊥
 refused_after_act l = none_some l.0.rule.first_true
 
 -- a statement looks whose table isn't there
@@ -114,9 +115,9 @@ start_after_abort : IsLegal again (refused_again ++ Abort 8 ∷ Start 0 levels.R
 start_after_abort l = cc l.0.follows
 
 -- a transaction aborts in its step, where nothing was refused
-abort_for_nothing : IsLegal scripts (looked_create ++ Abort 1 ∷ []) → ⊥
+abort_for_nothing : IsLegal terms (looked_create ++ Abort 1 ∷ []) → ⊥
 abort_for_nothing l = elim l.0.rule.refused_or_idle [ inl was ↦ elim was [ inl refused ↦ cc refused | inr idle ↦ cc idle ] | inr rollback ↦ cc rollback ]
 
 -- a transaction aborts in place of its Commit
-abort_for_commit : IsLegal scripts (done_create ++ Abort 1 ∷ []) → ⊥
+abort_for_commit : IsLegal terms (done_create ++ Abort 1 ∷ []) → ⊥
 abort_for_commit l = cc l.0.follows

@@ -11,7 +11,7 @@ use Rattle.al_history.specs.declared.entry.Entry.TheVariants.{Give, Start, Wait,
 use Rattle.al_history.specs.declared.statement.Column.{Column}
 use Rattle.al_history.specs.declared.statement.ScriptBlock.{ScriptBlock}
 use Rattle.al_history.specs.declared.statement.Statement.TheVariants as statements
-use Rattle.al_history.specs.declared.statement.Scripts.{Scripts}
+use Rattle.al_history.specs.declared.statement.Terms.{Terms}
 use Rattle.al_history.specs.Past.{Past}
 use Rattle.al_history.specs.Hand.{hand, refused, dones, in_hand, xact_of, implicit_of, session_of, look_of, acts_of, closed, BlockState, NoBlock, OpenBlock, FailedBlock, block_state, if_no_block}
 use Rattle.al_history.specs.View.{latest}
@@ -22,14 +22,14 @@ use Rattle.std.proofs.lemmas.Bool.{eq-eqb}
 use Rattle.al_history.specs.Database.{Table}
 use Rattle.al_history.specs.Locks.{claim, grantable, is_settled, is_waiting, is_grant}
 use Rattle.al_history.specs.Waits.{can_go_on}
-use Rattle.al_history.specs.Need.{lacking, makers, first_open, name_taker}
-use Rattle.al_history.specs.Rules.{starts, has_place, Ascends, ActRule, Creates, Inserts, Selects, Alters, Answers, looked_at}
+use Rattle.al_history.specs.Need.{has_place, lacking, makers, first_open, name_taker}
+use Rattle.al_history.specs.Rules.{starts, Ascends, ActRule, Creates, Inserts, Selects, Alters, Answers, looked_at}
 use Rattle.al_history.specs.Alone.{sole_user, used_table, IsNumbered, IsUser, UsesOwn}
 use Rattle.al_history.specs.Legal.{Unless, MayCome, Legal}
 
 -- a legal journal and one more entry that may come
 infixl 10 ◌▸◌
-pub ◌▸◌ : {scripts : Scripts} {past : Past} {e : Entry} → Legal scripts past → MayCome scripts past e → Legal scripts (e ∷ past)
+pub ◌▸◌ : {terms : Terms} {past : Past} {e : Entry} → Legal terms past → MayCome terms past e → Legal terms (e ∷ past)
 legal ▸ may = (may, legal)
 
 -- what is asked of the statement's table: where someone has it alone, it is that session
@@ -37,76 +37,76 @@ abbrev pub OwnTable : Past → ℕ → Option Table → Type 0
 OwnTable past s None = Unit {0}
 OwnTable past s (Some t) = IsUser (sole_user past t.number) s
 
-abbrev pub OwnAt : Scripts → Past → ℕ → Option Past → Type 0
-OwnAt scripts past x None = Unit {0}
-OwnAt scripts past x (Some look) = OwnTable past (session_of past x) (used_table scripts past x look)
+abbrev pub OwnAt : Terms → Past → ℕ → Option Past → Type 0
+OwnAt terms past x None = Unit {0}
+OwnAt terms past x (Some look) = OwnTable past (session_of past x) (used_table terms past x look)
 
 own_table : (past : Past) (s : ℕ) (o : Option Table) → OwnTable past s o → (table : ℕ) → IsNumbered o table → IsUser (sole_user past table) s
 own_table past s None own table used = absurd used
 own_table past s (Some t) own table used = rw (← used) own
 
-pub uses_own : (scripts : Scripts) (past : Past) (x : ℕ) (look : Option Past) → OwnAt scripts past x look → UsesOwn scripts past x look
-uses_own scripts past x None own = tt
-uses_own scripts past x (Some look) own = own_table past (session_of past x) (used_table scripts past x look) own
+pub uses_own : (terms : Terms) (past : Past) (x : ℕ) (look : Option Past) → OwnAt terms past x look → UsesOwn terms past x look
+uses_own terms past x None own = tt
+uses_own terms past x (Some look) own = own_table past (session_of past x) (used_table terms past x look) own
 
 -- what is waived where the entry is the lock of a request that waits
 waived : (b : Bool) (asked : Type 0) → b ≡ true → Unless b asked
 waived b asked e = rw e tt
 
 -- a Give may come
-pub may_give : {scripts : Scripts} {past : Past} {s block : ℕ} → s < scripts.sessions → option_map (λ (b : ScriptBlock). b.session) (slice_get scripts.blocks block) ≡ Some s → closed past s ≡ false → hand past s ≡ None → is_settled past ≡ true → Follows (owed scripts past) (Give s block) → MayCome scripts past (Give s block)
+pub may_give : {terms : Terms} {past : Past} {s block : ℕ} → s < terms.scripts.sessions → option_map (λ (b : ScriptBlock). b.session) (slice_get terms.scripts.blocks block) ≡ Some s → closed past s ≡ false → hand past s ≡ None → is_settled past ≡ true → Follows (owed terms past) (Give s block) → MayCome terms past (Give s block)
 may_give known of_session not_closed idle settled follows = record { rule = record { known = known; of_session = of_session; not_closed = not_closed; idle = idle }; settled = settled; follows = follows; alone = tt }
 
 -- a Start of READ COMMITTED
-pub may_start : {scripts : Scripts} {past : Past} {s : ℕ} → option_map (starts (block_state past s)) (in_hand scripts past s) ≡ Some true → xact_of past s ≡ None → is_settled past ≡ true → Follows (owed scripts past) (Start s levels.ReadCommitted) → MayCome scripts past (Start s levels.ReadCommitted)
+pub may_start : {terms : Terms} {past : Past} {s : ℕ} → option_map (starts (block_state past s)) (in_hand terms past s) ≡ Some true → xact_of past s ≡ None → is_settled past ≡ true → Follows (owed terms past) (Start s levels.ReadCommitted) → MayCome terms past (Start s levels.ReadCommitted)
 may_start statement none_open settled follows = record { rule = record { statement = statement; none_open = none_open; read_committed = refl }; settled = settled; follows = follows; alone = tt }
 
 -- a Wait for a lock
-pub may_wait_for_lock : {scripts : Scripts} {past : Past} {x table : ℕ} {mode : Mode} → xact_of past (session_of past x) ≡ Some x → can_go_on past (session_of past x) ≡ true → look_of past (session_of past x) ≡ None → lacking scripts past x ≡ Some (claim past x table mode) → grantable past (claim past x table mode) ≡ false → cause_of scripts past (session_of past x) ≡ None → is_settled past ≡ true → Follows (owed scripts past) (Wait x (wants.Table table mode)) → MayCome scripts past (Wait x (wants.Table table mode))
+pub may_wait_for_lock : {terms : Terms} {past : Past} {x table : ℕ} {mode : Mode} → xact_of past (session_of past x) ≡ Some x → can_go_on past (session_of past x) ≡ true → look_of past (session_of past x) ≡ None → lacking terms past x ≡ Some (claim past x table mode) → grantable past (claim past x table mode) ≡ false → cause_of terms past (session_of past x) ≡ None → is_settled past ≡ true → Follows (owed terms past) (Wait x (wants.Table table mode)) → MayCome terms past (Wait x (wants.Table table mode))
 may_wait_for_lock open_xact in_step before_look lacks held_up not_refused settled follows = record { rule = record { open_xact = open_xact; in_step = in_step; waits_for = (before_look, lacks, held_up); not_refused = not_refused }; settled = settled; follows = follows; alone = tt }
 
 -- a Wait for the end of the transaction that has made a table of the new one's name
-pub may_wait_for_end : {scripts : Scripts} {past : Past} {x y : ℕ} → xact_of past (session_of past x) ≡ Some x → can_go_on past (session_of past x) ≡ true → IsSome (look_of past (session_of past x)) → option_and_then (name_taker past x) (in_hand scripts past (session_of past x)) ≡ Some y → acts_of past (session_of past x) ≡ [] → cause_of scripts past (session_of past x) ≡ None → is_settled past ≡ true → Follows (owed scripts past) (Wait x (wants.Ends y)) → MayCome scripts past (Wait x (wants.Ends y))
+pub may_wait_for_end : {terms : Terms} {past : Past} {x y : ℕ} → xact_of past (session_of past x) ≡ Some x → can_go_on past (session_of past x) ≡ true → IsSome (look_of past (session_of past x)) → option_and_then (name_taker past x) (in_hand terms past (session_of past x)) ≡ Some y → acts_of past (session_of past x) ≡ [] → cause_of terms past (session_of past x) ≡ None → is_settled past ≡ true → Follows (owed terms past) (Wait x (wants.Ends y)) → MayCome terms past (Wait x (wants.Ends y))
 may_wait_for_end open_xact in_step looked taken first not_refused settled follows = record { rule = record { open_xact = open_xact; in_step = in_step; waits_for = (looked, taken, first); not_refused = not_refused }; settled = settled; follows = follows; alone = tt }
 
 -- a Lock that is got at once
-pub may_lock : {scripts : Scripts} {past : Past} {x table : ℕ} {mode : Mode} → xact_of past (session_of past x) ≡ Some x → grantable past (claim past x table mode) ≡ true → is_waiting past (claim past x table mode) ≡ false → lacking scripts past x ≡ Some (claim past x table mode) → look_of past (session_of past x) ≡ None → cause_of scripts past (session_of past x) ≡ None → Unless (is_grant past (Lock x table mode)) (is_settled past ≡ true) → Unless (is_grant past (Lock x table mode)) (Follows (owed scripts past) (Lock x table mode)) → IsUser (sole_user past table) (session_of past x) → MayCome scripts past (Lock x table mode)
+pub may_lock : {terms : Terms} {past : Past} {x table : ℕ} {mode : Mode} → xact_of past (session_of past x) ≡ Some x → grantable past (claim past x table mode) ≡ true → is_waiting past (claim past x table mode) ≡ false → lacking terms past x ≡ Some (claim past x table mode) → look_of past (session_of past x) ≡ None → cause_of terms past (session_of past x) ≡ None → Unless (is_grant past (Lock x table mode)) (is_settled past ≡ true) → Unless (is_grant past (Lock x table mode)) (Follows (owed terms past) (Lock x table mode)) → IsUser (sole_user past table) (session_of past x) → MayCome terms past (Lock x table mode)
 may_lock open_xact can_be not_waiting lacks before_look not_refused settled follows own = record { rule = record { open_xact = open_xact; can_be = can_be; asked = inr (record { not_waiting = not_waiting; lacks = lacks; before_look = before_look; not_refused = not_refused }) }; settled = settled; follows = follows; alone = own }
 
 -- the Lock of a request that waited
-pub may_be_granted : {scripts : Scripts} {past : Past} {x table : ℕ} {mode : Mode} → xact_of past (session_of past x) ≡ Some x → grantable past (claim past x table mode) ≡ true → is_waiting past (claim past x table mode) ≡ true → Ascends past table → IsUser (sole_user past table) (session_of past x) → MayCome scripts past (Lock x table mode)
+pub may_be_granted : {terms : Terms} {past : Past} {x table : ℕ} {mode : Mode} → xact_of past (session_of past x) ≡ Some x → grantable past (claim past x table mode) ≡ true → is_waiting past (claim past x table mode) ≡ true → Ascends past table → IsUser (sole_user past table) (session_of past x) → MayCome terms past (Lock x table mode)
 may_be_granted open_xact can_be waits ascends own = record { rule = record { open_xact = open_xact; can_be = can_be; asked = inl (record { waits = waits; ascends = ascends }) }; settled = waived _ _ waits; follows = waived _ _ waits; alone = own }
 
 -- a Look
-pub may_look : {scripts : Scripts} {past : Past} {x : ℕ} → xact_of past (session_of past x) ≡ Some x → option_map has_place (in_hand scripts past (session_of past x)) ≡ Some true → look_of past (session_of past x) ≡ None → lacking scripts past x ≡ None → cause_of scripts past (session_of past x) ≡ None → is_settled past ≡ true → Follows (owed scripts past) (Look x) → OwnTable past (session_of past x) (used_table scripts past x past) → MayCome scripts past (Look x)
-may_look {scripts} {past} {x} open_xact statement first locked not_refused settled follows own = record { rule = record { open_xact = open_xact; statement = statement; first = first; locked = locked; not_refused = not_refused }; settled = settled; follows = follows; alone = uses_own scripts past x (Some past) own }
+pub may_look : {terms : Terms} {past : Past} {x : ℕ} → xact_of past (session_of past x) ≡ Some x → option_map has_place (in_hand terms past (session_of past x)) ≡ Some true → look_of past (session_of past x) ≡ None → lacking terms past x ≡ None → cause_of terms past (session_of past x) ≡ None → is_settled past ≡ true → Follows (owed terms past) (Look x) → OwnTable past (session_of past x) (used_table terms past x past) → MayCome terms past (Look x)
+may_look {terms} {past} {x} open_xact statement first locked not_refused settled follows own = record { rule = record { open_xact = open_xact; statement = statement; first = first; locked = locked; not_refused = not_refused }; settled = settled; follows = follows; alone = uses_own terms past x (Some past) own }
 
 -- what a statement does
-pub may_act : {scripts : Scripts} {past : Past} {x : ℕ} → xact_of past (session_of past x) ≡ Some x → IsSome (look_of past (session_of past x)) → acts_of past (session_of past x) ≡ [] → lacking scripts past x ≡ None → cause_of scripts past (session_of past x) ≡ None → ActRule scripts past x
+pub may_act : {terms : Terms} {past : Past} {x : ℕ} → xact_of past (session_of past x) ≡ Some x → IsSome (look_of past (session_of past x)) → acts_of past (session_of past x) ≡ [] → lacking terms past x ≡ None → cause_of terms past (session_of past x) ≡ None → ActRule terms past x
 may_act open_xact looked first locked not_refused = record { open_xact = open_xact; looked = looked; first = first; locked = locked; not_refused = not_refused }
 
 -- a Make
-pub may_make : {scripts : Scripts} {past : Past} {x table : ℕ} {name : List ℕ} {shape : List Column} → ActRule scripts past x → first_open past x (makers past name) ≡ None → Creates (in_hand scripts past (session_of past x)) name shape → table ≡ length past → is_settled past ≡ true → Follows (owed scripts past) (Make x table name shape) → MayCome scripts past (Make x table name shape)
+pub may_make : {terms : Terms} {past : Past} {x table : ℕ} {name : List ℕ} {shape : List Column} → ActRule terms past x → first_open past x (makers past name) ≡ None → Creates (in_hand terms past (session_of past x)) name shape → table ≡ length past → is_settled past ≡ true → Follows (owed terms past) (Make x table name shape) → MayCome terms past (Make x table name shape)
 may_make act free creates number settled follows = record { rule = record { act = act; free = free; creates = creates; number = number }; settled = settled; follows = follows; alone = tt }
 
 -- an Add
-pub may_add : {scripts : Scripts} {past : Past} {x table : ℕ} {row : List Value} → ActRule scripts past x → Inserts (in_hand scripts past (session_of past x)) (latest scripts past x) table row → is_settled past ≡ true → Follows (owed scripts past) (Add x table row) → IsUser (sole_user past table) (session_of past x) → MayCome scripts past (Add x table row)
+pub may_add : {terms : Terms} {past : Past} {x table : ℕ} {row : List Value} → ActRule terms past x → Inserts (in_hand terms past (session_of past x)) (latest terms past x) table row → is_settled past ≡ true → Follows (owed terms past) (Add x table row) → IsUser (sole_user past table) (session_of past x) → MayCome terms past (Add x table row)
 may_add act inserts settled follows own = record { rule = record { act = act; inserts = inserts }; settled = settled; follows = follows; alone = own }
 
 -- a Read
-pub may_read : {scripts : Scripts} {past : Past} {x : ℕ} {names : List (List ℕ)} {rows : List (List Value)} → ActRule scripts past x → Selects (in_hand scripts past (session_of past x)) (looked_at scripts (look_of past (session_of past x)) x) names rows → is_settled past ≡ true → Follows (owed scripts past) (Read x names rows) → OwnAt scripts past x (look_of past (session_of past x)) → MayCome scripts past (Read x names rows)
-may_read {scripts} {past} {x} act selects settled follows own = record { rule = record { act = act; selects = selects }; settled = settled; follows = follows; alone = uses_own scripts past x (look_of past (session_of past x)) own }
+pub may_read : {terms : Terms} {past : Past} {x : ℕ} {names : List (List ℕ)} {rows : List (List Value)} → ActRule terms past x → Selects (in_hand terms past (session_of past x)) (looked_at terms (look_of past (session_of past x)) x) names rows → is_settled past ≡ true → Follows (owed terms past) (Read x names rows) → OwnAt terms past x (look_of past (session_of past x)) → MayCome terms past (Read x names rows)
+may_read {terms} {past} {x} act selects settled follows own = record { rule = record { act = act; selects = selects }; settled = settled; follows = follows; alone = uses_own terms past x (look_of past (session_of past x)) own }
 
 -- an Alter that rewrites nothing
-pub may_alter : {scripts : Scripts} {past : Past} {x table statement : ℕ} → ActRule scripts past x → Alters (in_hand scripts past (session_of past x)) (latest scripts past x) table → statement ≡ dones past (session_of past x) → is_settled past ≡ true → Follows (owed scripts past) (Alter x table statement []) → OwnAt scripts past x (look_of past (session_of past x)) → MayCome scripts past (Alter x table statement [])
-may_alter {scripts} {past} {x} act alters number settled follows own = record { rule = record { act = act; alters = alters; number = number; none_rewritten = refl }; settled = settled; follows = follows; alone = uses_own scripts past x (look_of past (session_of past x)) own }
+pub may_alter : {terms : Terms} {past : Past} {x table statement : ℕ} → ActRule terms past x → Alters (in_hand terms past (session_of past x)) (latest terms past x) table → statement ≡ dones past (session_of past x) → is_settled past ≡ true → Follows (owed terms past) (Alter x table statement []) → OwnAt terms past x (look_of past (session_of past x)) → MayCome terms past (Alter x table statement [])
+may_alter {terms} {past} {x} act alters number settled follows own = record { rule = record { act = act; alters = alters; number = number; none_rewritten = refl }; settled = settled; follows = follows; alone = uses_own terms past x (look_of past (session_of past x)) own }
 
 -- a Done
-pub may_be_done : {scripts : Scripts} {past : Past} {s : ℕ} {reply : Reply} → Answers (in_hand scripts past s) (acts_of past s) (xact_of past s) (block_state past s) reply → is_settled past ≡ true → Follows (owed scripts past) (Done s reply) → MayCome scripts past (Done s reply)
+pub may_be_done : {terms : Terms} {past : Past} {s : ℕ} {reply : Reply} → Answers (in_hand terms past s) (acts_of past s) (xact_of past s) (block_state past s) reply → is_settled past ≡ true → Follows (owed terms past) (Done s reply) → MayCome terms past (Done s reply)
 may_be_done answers settled follows = record { rule = record { answers = answers }; settled = settled; follows = follows; alone = tt }
 
 -- a Refuse
-pub may_refuse : {scripts : Scripts} {past : Past} {s : ℕ} {cause : Cause} → cause_of scripts past s ≡ Some cause → is_settled past ≡ true → Follows (owed scripts past) (Refuse s cause) → MayCome scripts past (Refuse s cause)
+pub may_refuse : {terms : Terms} {past : Past} {s : ℕ} {cause : Cause} → cause_of terms past s ≡ Some cause → is_settled past ≡ true → Follows (owed terms past) (Refuse s cause) → MayCome terms past (Refuse s cause)
 may_refuse first_true settled follows = record { rule = record { first_true = first_true }; settled = settled; follows = follows; alone = tt }
 
 implicit_is_open : (state : BlockState) (o : Option ℕ) (x : ℕ) → if_no_block state o ≡ Some x → o ≡ Some x
@@ -115,31 +115,31 @@ implicit_is_open OpenBlock o x e = absurd cc
 implicit_is_open (FailedBlock refuse) o x e = absurd cc
 
 -- a Commit
-pub may_commit : {scripts : Scripts} {past : Past} {x : ℕ} → implicit_of past (session_of past x) ≡ Some x → IsSome (hand past (session_of past x)) → in_hand scripts past (session_of past x) ≡ None → refused past (session_of past x) ≡ false → is_settled past ≡ true → Follows (owed scripts past) (Commit x) → MayCome scripts past (Commit x)
-may_commit {scripts} {past} {x} implicit in_step none_left none_refused settled follows = record { rule = record { open_xact = implicit_is_open (block_state past (session_of past x)) (xact_of past (session_of past x)) x implicit; in_step = in_step; none_refused = none_refused; ends = inl (none_left, implicit) }; settled = settled; follows = follows; alone = tt }
+pub may_commit : {terms : Terms} {past : Past} {x : ℕ} → implicit_of past (session_of past x) ≡ Some x → IsSome (hand past (session_of past x)) → in_hand terms past (session_of past x) ≡ None → refused past (session_of past x) ≡ false → is_settled past ≡ true → Follows (owed terms past) (Commit x) → MayCome terms past (Commit x)
+may_commit {terms} {past} {x} implicit in_step none_left none_refused settled follows = record { rule = record { open_xact = implicit_is_open (block_state past (session_of past x)) (xact_of past (session_of past x)) x implicit; in_step = in_step; none_refused = none_refused; ends = inl (none_left, implicit) }; settled = settled; follows = follows; alone = tt }
 
 -- an Abort
-pub may_abort : {scripts : Scripts} {past : Past} {x : ℕ} → xact_of past (session_of past x) ≡ Some x → (refused past (session_of past x) ≡ true) ⊎ (hand past (session_of past x) ≡ None) → is_settled past ≡ true → Follows (owed scripts past) (Abort x) → MayCome scripts past (Abort x)
+pub may_abort : {terms : Terms} {past : Past} {x : ℕ} → xact_of past (session_of past x) ≡ Some x → (refused past (session_of past x) ≡ true) ⊎ (hand past (session_of past x) ≡ None) → is_settled past ≡ true → Follows (owed terms past) (Abort x) → MayCome terms past (Abort x)
 may_abort open_xact refused_or_idle settled follows = record { rule = record { open_xact = open_xact; refused_or_idle = inl refused_or_idle }; settled = settled; follows = follows; alone = tt }
 
 -- the Commit of a COMMIT
-pub commits : {scripts : Scripts} {past : Past} {x : ℕ} → xact_of past (session_of past x) ≡ Some x → in_hand scripts past (session_of past x) ≡ Some statements.Commit → IsSome (hand past (session_of past x)) → refused past (session_of past x) ≡ false → is_settled past ≡ true → Follows (owed scripts past) (Commit x) → MayCome scripts past (Commit x)
+pub commits : {terms : Terms} {past : Past} {x : ℕ} → xact_of past (session_of past x) ≡ Some x → in_hand terms past (session_of past x) ≡ Some statements.Commit → IsSome (hand past (session_of past x)) → refused past (session_of past x) ≡ false → is_settled past ≡ true → Follows (owed terms past) (Commit x) → MayCome terms past (Commit x)
 commits open_xact is in_step none settled follows = record { rule = record { open_xact = open_xact; in_step = in_step; none_refused = none; ends = inr is }; settled = settled; follows = follows; alone = tt }
 
 -- the Abort of a ROLLBACK
-pub rolls_back : {scripts : Scripts} {past : Past} {x : ℕ} → xact_of past (session_of past x) ≡ Some x → in_hand scripts past (session_of past x) ≡ Some statements.Rollback → is_settled past ≡ true → Follows (owed scripts past) (Abort x) → MayCome scripts past (Abort x)
+pub rolls_back : {terms : Terms} {past : Past} {x : ℕ} → xact_of past (session_of past x) ≡ Some x → in_hand terms past (session_of past x) ≡ Some statements.Rollback → is_settled past ≡ true → Follows (owed terms past) (Abort x) → MayCome terms past (Abort x)
 rolls_back open_xact is settled follows = record { rule = record { open_xact = open_xact; refused_or_idle = inr is }; settled = settled; follows = follows; alone = tt }
 
 -- a Cancel
-pub may_cancel : {scripts : Scripts} {past : Past} {s : ℕ} → IsSome (hand past s) → is_settled past ≡ true → Follows (owed scripts past) (Cancel s) → MayCome scripts past (Cancel s)
+pub may_cancel : {terms : Terms} {past : Past} {s : ℕ} → IsSome (hand past s) → is_settled past ≡ true → Follows (owed terms past) (Cancel s) → MayCome terms past (Cancel s)
 may_cancel in_step settled follows = record { rule = record { in_step = in_step }; settled = settled; follows = follows; alone = tt }
 
 -- an End
-pub may_end : {scripts : Scripts} {past : Past} {s : ℕ} → IsSome (hand past s) → (in_hand scripts past s ≡ None) ⊎ (refused past s ≡ true) → implicit_of past s ≡ None → is_settled past ≡ true → Follows (owed scripts past) (End s) → MayCome scripts past (End s)
+pub may_end : {terms : Terms} {past : Past} {s : ℕ} → IsSome (hand past s) → (in_hand terms past s ≡ None) ⊎ (refused past s ≡ true) → implicit_of past s ≡ None → is_settled past ≡ true → Follows (owed terms past) (End s) → MayCome terms past (End s)
 may_end in_step over none_implicit settled follows = record { rule = record { in_step = in_step; over = over; none_implicit = none_implicit }; settled = settled; follows = follows; alone = tt }
 
 -- a Close
-pub may_close : {scripts : Scripts} {past : Past} {s : ℕ} → s < scripts.sessions → hand past s ≡ None → closed past s ≡ false → xact_of past s ≡ None → is_settled past ≡ true → Follows (owed scripts past) (Close s) → MayCome scripts past (Close s)
+pub may_close : {terms : Terms} {past : Past} {s : ℕ} → s < terms.scripts.sessions → hand past s ≡ None → closed past s ≡ false → xact_of past s ≡ None → is_settled past ≡ true → Follows (owed terms past) (Close s) → MayCome terms past (Close s)
 may_close known idle not_closed none_open settled follows = record { rule = record { known = known; idle = idle; not_closed = not_closed; none_open = none_open }; settled = settled; follows = follows; alone = tt }
 
 -- what isn't so: each takes just the field that a wrong journal breaks

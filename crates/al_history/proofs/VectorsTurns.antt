@@ -14,30 +14,27 @@ use Rattle.al_history.specs.declared.spec.Part.TheVariants as parts
 use Rattle.al_history.specs.declared.spec.Spec.{Spec}
 use Rattle.al_history.specs.declared.run.Setup.TheVariants as setups
 use Rattle.al_history.specs.declared.statement.Statement.TheVariants as statements
-use Rattle.al_history.specs.declared.statement.Scripts.{Scripts}
+use Rattle.al_history.specs.declared.statement.Terms.{Terms}
 use Rattle.al_history.specs.Past.{Past}
 use Rattle.al_history.specs.Hand.{hand, closed}
 use Rattle.al_history.specs.Waits.{can_go_on}
 use Rattle.al_history.specs.Legal.{IsLegal}
 use Rattle.al_history.specs.Whole.{IsIdle, Driven, AreRuns}
-use Rattle.al_history.proofs.Vectors.{name_a, int, create, insert, add_column, select, alone, ended_insert, IsAtRest, at_rest, idle, none_below, zero_below, rest_at_first, rest_after_create, rest_after_insert, ended_create}
+use Rattle.al_history.proofs.Vectors.{terms_of, name_a, int, create, insert, add_column, select, alone, ended_insert, IsAtRest, at_rest, idle, none_below, zero_below, rest_at_first, rest_after_create, rest_after_insert, ended_create}
 use Rattle.al_history.proofs.VectorsWhole.{run_of}
 use Rattle.al_history.proofs.Views.{hold_always}
 use Rattle.al_history.proofs.VectorsRules.{◌▸◌, rolls_back, may_give, may_start, may_wait_for_lock, may_lock, may_be_granted, may_look, may_act, may_make, may_add, may_read, may_alter, may_be_done, may_commit, may_end, may_close, in_turn_seven, in_turn_eight, true_false}
 
 -- the control session makes and fills t; then BEGIN and an ALTER TABLE in session 1, a SELECT in session 2, and ROLLBACK
-abbrev scripts : Scripts
-scripts = record {
-  sessions = 3;
-  blocks =
-      alone 0 create
-      ∷ alone 0 insert
-      ∷ alone 1 statements.Begin
-      ∷ alone 1 add_column
-      ∷ alone 2 select
-      ∷ alone 1 statements.Rollback
-      ∷ [];
-}
+abbrev terms : Terms
+terms = terms_of 3 (
+    alone 0 create
+    ∷ alone 0 insert
+    ∷ alone 1 statements.Begin
+    ∷ alone 1 add_column
+    ∷ alone 2 select
+    ∷ alone 1 statements.Rollback
+    ∷ [])
 
 abbrev step : ℕ → List ℕ → List ℕ → Block
 step session name text = record { part = parts.Step; session = session; name = name; text = text }
@@ -75,7 +72,7 @@ rolled = waits ++ Give 1 5 ∷ Abort 16 ∷ Lock 26 3 AccessShare ∷ Done 1 (re
 abbrev journal : List Entry
 journal = rolled ++ Look 26 ∷ Read 26 (name_a ∷ []) ((int 1 ∷ []) ∷ []) ∷ Done 2 (replies.Rows 34) ∷ Commit 26 ∷ End 2 ∷ Close 1 ∷ Close 2 ∷ Close 0 ∷ []
 
-rolled_is_legal : IsLegal scripts rolled
+rolled_is_legal : IsLegal terms rolled
 rolled_is_legal =
     tt
     ▸ may_give (omega arith) refl refl refl refl tt
@@ -112,7 +109,7 @@ rolled_is_legal =
     ▸ may_be_done refl refl refl
     ▸ may_end refl (inl refl) refl refl refl
 
-journal_is_legal : IsLegal scripts journal
+journal_is_legal : IsLegal terms journal
 journal_is_legal =
     rolled_is_legal
     ▸ may_look refl refl refl refl refl refl tt tt
@@ -153,7 +150,7 @@ infixl 10 ◌▹◌
 driven ▹ turn = (turn, driven)
 
 -- session 1 goes on while session 2 waits; what stands in a tail, and the Lock of the request, has no turn
-driven_rolled : Driven scripts (reverse rolled)
+driven_rolled : Driven terms (reverse rolled)
 driven_rolled =
     in_turn_eight tt tt (refl, none_below _) (refl, none_below _) (refl, none_below _) (refl, none_below _) (refl, none_below _) (idle (reverse ended_create) rest_after_create)
     (in_turn_seven tt tt (refl, none_below _) (refl, none_below _) (refl, none_below _) (refl, none_below _) (idle [] rest_at_first) tt)
@@ -177,7 +174,7 @@ driven_rolled =
     ▹ tt
 
 -- then session 2 goes on
-driven_journal : Driven scripts (reverse journal)
+driven_journal : Driven terms (reverse journal)
 driven_journal =
     driven_rolled
     ▹ (refl, two_below _ refl refl)
@@ -196,13 +193,13 @@ all_closed (suc (suc zero)) le = refl
 all_closed (suc (suc (suc s))) le = absurd (omega arith)
 
 -- it is the run of its permutation
-waiting_run : AreRuns spec scripts (run_of 1 setups.Done journal ∷ [])
+waiting_run : AreRuns spec terms (run_of 1 setups.Done journal ∷ [])
 waiting_run = (
   record {
     permutation = refl;
     legal = journal_is_legal;
     whole = record { as_due = (refl, (refl, (refl, (refl, (refl, (refl, (refl, (refl, (refl, tt))))))))); all_done = refl; in_turn = driven_journal; all_closed = all_closed };
-    holding = hold_always scripts (reverse journal);
+    holding = hold_always terms (reverse journal);
     setup = refl;
   },
   tt,
@@ -211,13 +208,13 @@ waiting_run = (
 -- ---- what isn't driven
 
 -- a block is given where the session that waited can go on
-given_too_early : Driven scripts (reverse (rolled ++ Give 1 2 ∷ [])) → ⊥
+given_too_early : Driven terms (reverse (rolled ++ Give 1 2 ∷ [])) → ⊥
 given_too_early d = true_false (d.0 2)
 
 -- that is legal
-given_too_early_is_legal : IsLegal scripts (rolled ++ Give 1 2 ∷ [])
+given_too_early_is_legal : IsLegal terms (rolled ++ Give 1 2 ∷ [])
 given_too_early_is_legal = rolled_is_legal ▸ may_give (omega arith) refl refl refl refl tt
 
 -- a step that waits is cancelled where another session can go on
-cancelled_too_early : Driven scripts (reverse (waits ++ Give 1 5 ∷ Cancel 2 ∷ [])) → ⊥
+cancelled_too_early : Driven terms (reverse (waits ++ Give 1 5 ∷ Cancel 2 ∷ [])) → ⊥
 cancelled_too_early d = true_false (d.0 1)

@@ -11,12 +11,12 @@ use Rattle.al_history.specs.declared.entry.Entry.TheVariants.{Give, Start, Lock,
 use Rattle.al_history.specs.declared.statement.Statement.{Statement}
 use Rattle.al_history.specs.declared.statement.Statement.TheVariants as statements
 use Rattle.al_history.specs.declared.statement.ScriptBlock.{ScriptBlock}
-use Rattle.al_history.specs.declared.statement.Scripts.{Scripts}
+use Rattle.al_history.specs.declared.statement.Terms.{Terms}
 use Rattle.al_history.specs.Database.{Table, VersionedRow}
 use Rattle.al_history.specs.Fate.{fate, Open, Committed, Aborted}
 use Rattle.al_history.specs.View.{view, latest, committed}
 use Rattle.al_history.specs.Legal.{IsLegal}
-use Rattle.al_history.proofs.Vectors.{name_t, name_a, name_b, int, column_a, column_b, insert, add_column, select, alone, scripts_with, scripts, done_create, ended_create, ended_insert, journal, create_is_legal}
+use Rattle.al_history.proofs.Vectors.{terms_of, name_t, name_a, name_b, int, column_a, column_b, insert, add_column, select, alone, terms_with, terms, done_create, ended_create, ended_insert, journal, create_is_legal}
 use Rattle.al_history.proofs.VectorsCauses.{failed}
 use Rattle.al_history.proofs.VectorsRules.{◌▸◌, may_give, may_start, may_lock, may_look, may_act, may_add, may_read, may_alter, may_be_done, may_refuse, may_commit, may_abort, may_end}
 
@@ -40,19 +40,19 @@ aborted_at_last : fate (reverse failed) 8 ≡ Aborted
 aborted_at_last = refl
 
 -- a reader that has seen nothing finds the columns that are committed, and no row
-blind_reader : view scripts (reverse journal) [] None ≡ wide [] ∷ []
+blind_reader : view terms (reverse journal) [] None ≡ wide [] ∷ []
 blind_reader = refl
 
 -- a reader that has seen the row, but not the new column, finds the row with the new column's default
-older_reader : view scripts (reverse journal) (reverse ended_insert) None ≡ wide (record { number = 11; version = 11; values = int 1 ∷ int 5 ∷ [] } ∷ []) ∷ []
+older_reader : view terms (reverse journal) (reverse ended_insert) None ≡ wide (record { number = 11; version = 11; values = int 1 ∷ int 5 ∷ [] } ∷ []) ∷ []
 older_reader = refl
 
 -- Session 0 adds a row, and session 1 reads.
 abbrev reading : List ScriptBlock
 reading = alone 0 insert ∷ alone 1 select ∷ []
 
-abbrev read : Scripts
-read = scripts_with reading
+abbrev read : Terms
+read = terms_with reading
 
 -- session 1 looks before session 0 commits,
 abbrev looked_early : List Entry
@@ -128,7 +128,7 @@ looked_four = ended_create ++ Give 0 1 ∷ Start 0 levels.ReadCommitted
     ∷ Lock 8 3 AccessShare ∷ Look 8 ∷ []
 
 -- each statement finds what those before it did; the second row needs no lock that isn't held already
-looked_four_is_legal : IsLegal (scripts_with four) looked_four
+looked_four_is_legal : IsLegal (terms_with four) looked_four
 looked_four_is_legal =
     create_is_legal four
     ▸ may_give (omega arith) refl refl refl refl tt
@@ -148,7 +148,7 @@ looked_four_is_legal =
     ▸ may_look refl refl refl refl refl refl tt refl
 
 -- the transaction reads both rows in the order in which they came, each with the default of the new column
-four_is_legal : IsLegal (scripts_with four) (looked_four ++ Read 8 (name_a ∷ name_b ∷ []) ((int 1 ∷ int 5 ∷ []) ∷ (int 2 ∷ int 5 ∷ []) ∷ []) ∷ Done 0 (replies.Rows 22) ∷ Commit 8 ∷ End 0 ∷ [])
+four_is_legal : IsLegal (terms_with four) (looked_four ++ Read 8 (name_a ∷ name_b ∷ []) ((int 1 ∷ int 5 ∷ []) ∷ (int 2 ∷ int 5 ∷ []) ∷ []) ∷ Done 0 (replies.Rows 22) ∷ Commit 8 ∷ End 0 ∷ [])
 four_is_legal =
     looked_four_is_legal
     ▸ may_read (may_act refl refl refl refl refl) (refl, refl) refl tt refl
@@ -157,15 +157,15 @@ four_is_legal =
     ▸ may_end refl (inl refl) refl refl refl
 
 -- not in another order
-rows_swapped : IsLegal (scripts_with four) (looked_four ++ Read 8 (name_a ∷ name_b ∷ []) ((int 2 ∷ int 5 ∷ []) ∷ (int 1 ∷ int 5 ∷ []) ∷ []) ∷ []) → ⊥
+rows_swapped : IsLegal (terms_with four) (looked_four ++ Read 8 (name_a ∷ name_b ∷ []) ((int 2 ∷ int 5 ∷ []) ∷ (int 1 ∷ int 5 ∷ []) ∷ []) ∷ []) → ⊥
 rows_swapped l = cc l.0.rule.selects.1
 
 -- nobody else finds any of it before the Commit
-four_hidden : committed (scripts_with four) (reverse looked_four) ≡ narrow [] ∷ []
+four_hidden : committed (terms_with four) (reverse looked_four) ≡ narrow [] ∷ []
 four_hidden = refl
 
 -- the second row has the number of its own Add
-four_found : latest (scripts_with four) (reverse looked_four) 8 ≡ wide (record { number = 11; version = 11; values = int 1 ∷ int 5 ∷ [] } ∷ record { number = 18; version = 18; values = int 2 ∷ int 5 ∷ [] } ∷ []) ∷ []
+four_found : latest (terms_with four) (reverse looked_four) 8 ≡ wide (record { number = 11; version = 11; values = int 1 ∷ int 5 ∷ [] } ∷ record { number = 18; version = 18; values = int 2 ∷ int 5 ∷ [] } ∷ []) ∷ []
 four_found = refl
 
 -- A block adds the column twice.
@@ -176,7 +176,7 @@ abbrev twice_added : List Entry
 twice_added = ended_create ++ Give 0 1 ∷ Start 0 levels.ReadCommitted ∷ Lock 8 3 AccessExclusive ∷ Look 8 ∷ Alter 8 3 0 [] ∷ Done 0 (replies.Tag tags.AlterTable 0) ∷ Look 8 ∷ Refuse 0 (causes.TwiceColumn name_b) ∷ Abort 8 ∷ End 0 ∷ []
 
 -- the second is refused,
-twice_added_is_legal : IsLegal (scripts_with twice) twice_added
+twice_added_is_legal : IsLegal (terms_with twice) twice_added
 twice_added_is_legal =
     create_is_legal twice
     ▸ may_give (omega arith) refl refl refl refl tt
@@ -191,9 +191,9 @@ twice_added_is_legal =
     ▸ may_end refl (inr refl) refl refl refl
 
 -- and the first is undone with it
-first_undone : committed (scripts_with twice) (reverse twice_added) ≡ narrow [] ∷ []
+first_undone : committed (terms_with twice) (reverse twice_added) ≡ narrow [] ∷ []
 first_undone = refl
 
 -- a block without statements ends at once, without a transaction
-empty_block : IsLegal (record { sessions = 1; blocks = record { session = 0; script = [] } ∷ [] }) (Give 0 0 ∷ End 0 ∷ [])
+empty_block : IsLegal (terms_of 1 (record { session = 0; script = [] } ∷ [])) (Give 0 0 ∷ End 0 ∷ [])
 empty_block = tt ▸ may_give (omega arith) refl refl refl refl tt ▸ may_end refl (inl refl) refl refl tt

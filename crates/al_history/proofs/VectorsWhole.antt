@@ -16,7 +16,7 @@ use Rattle.al_history.specs.declared.run.Setup.TheVariants as setups
 use Rattle.al_history.specs.Hand.{closed}
 use Rattle.al_history.specs.Legal.{IsLegal}
 use Rattle.al_history.specs.Whole.{Driven, IsWhole, IsRun, AreRuns}
-use Rattle.al_history.proofs.Vectors.{name_a, int, alone, select, scripts, filled_with, spec, spec_with, given_create, ended_insert, ended_alter, ended_select, journal, insert_is_legal, alter_is_legal, select_is_legal, journal_is_legal, journal_is_whole, IsAtRest, at_rest, zero_below, idle, rest_after_insert, driven_insert}
+use Rattle.al_history.proofs.Vectors.{name_a, int, alone, select, terms, filled_with, spec, spec_with, given_create, ended_insert, ended_alter, ended_select, journal, insert_is_legal, alter_is_legal, select_is_legal, journal_is_legal, journal_is_whole, IsAtRest, at_rest, zero_below, idle, rest_after_insert, driven_insert}
 use Rattle.al_history.proofs.VectorsCauses.{add_again, again, spec_again, ended_again, failed, again_is_legal, failed_is_legal, failed_is_whole}
 use Rattle.al_history.proofs.VectorsRules.{◌▸◌, in_turn_seven, in_turn_eight, may_give, may_start, may_lock, may_look, may_act, may_read, may_alter, may_be_done, may_refuse, may_commit, may_abort, may_end, may_close, false_true}
 use Rattle.al_history.proofs.Views.{hold_always}
@@ -26,11 +26,11 @@ abbrev pub run_of : ℕ → Setup → List Entry → Run
 run_of number setup entries = record { permutation = number; setup = setup; history = record { entries = entries; room = 0 } }
 
 -- the whole journal is that of the first run
-pub first_run : IsRun spec scripts 1 (2 ∷ 3 ∷ []) (run_of 1 setups.Done journal)
-first_run = record { permutation = refl; legal = journal_is_legal; whole = journal_is_whole; holding = hold_always scripts (reverse journal); setup = refl }
+pub first_run : IsRun spec terms 1 (2 ∷ 3 ∷ []) (run_of 1 setups.Done journal)
+first_run = record { permutation = refl; legal = journal_is_legal; whole = journal_is_whole; holding = hold_always terms (reverse journal); setup = refl }
 
 -- and the file has no other
-pub runs : AreRuns spec scripts (run_of 1 setups.Done journal ∷ [])
+pub runs : AreRuns spec terms (run_of 1 setups.Done journal ∷ [])
 runs = (first_run, tt)
 
 -- the run whose second setup block fails says so
@@ -38,19 +38,19 @@ pub failed_run : AreRuns spec_again again (run_of 1 (setups.Failed 1) failed ∷
 failed_run = (record { permutation = refl; legal = failed_is_legal; whole = failed_is_whole; holding = hold_always again (reverse failed); setup = refl }, tt)
 
 -- runs count from 1
-counted_from_zero : AreRuns spec scripts (run_of 0 setups.Done journal ∷ []) → ⊥
+counted_from_zero : AreRuns spec terms (run_of 0 setups.Done journal ∷ []) → ⊥
 counted_from_zero r = cc r.0.permutation
 
 -- a permutation is left out
-run_missing : AreRuns spec scripts [] → ⊥
+run_missing : AreRuns spec terms [] → ⊥
 run_missing r = r
 
 -- a permutation is run twice
-run_doubled : AreRuns spec scripts (run_of 1 setups.Done journal ∷ run_of 1 setups.Done journal ∷ []) → ⊥
+run_doubled : AreRuns spec terms (run_of 1 setups.Done journal ∷ run_of 1 setups.Done journal ∷ []) → ⊥
 run_doubled r = r.1
 
 -- a run tells a failed setup block where none failed
-failed_for_done : IsRun spec scripts 1 (2 ∷ 3 ∷ []) (run_of 1 (setups.Failed 1) journal) → ⊥
+failed_for_done : IsRun spec terms 1 (2 ∷ 3 ∷ []) (run_of 1 (setups.Failed 1) journal) → ⊥
 failed_for_done r = cc r.setup
 
 -- a run tells no failed setup block where one failed
@@ -66,11 +66,11 @@ abbrev unclosed : List Entry
 unclosed = ended_select ++ Close 1 ∷ []
 
 -- that is legal,
-unclosed_is_legal : IsLegal scripts unclosed
+unclosed_is_legal : IsLegal terms unclosed
 unclosed_is_legal = select_is_legal ▸ may_close (omega arith) refl refl refl refl tt
 
 -- but not whole: the control session is open
-unclosed_is_no_run : IsWhole spec scripts (2 ∷ 3 ∷ []) (reverse unclosed) → ⊥
+unclosed_is_no_run : IsWhole spec terms (2 ∷ 3 ∷ []) (reverse unclosed) → ⊥
 unclosed_is_no_run w = false_true (w.all_closed 0 (omega arith))
 
 -- The second step of the permutation is left out:
@@ -78,15 +78,15 @@ abbrev step_missing : List Entry
 step_missing = ended_alter ++ Close 1 ∷ Close 0 ∷ []
 
 -- that is legal,
-step_missing_is_legal : IsLegal scripts step_missing
+step_missing_is_legal : IsLegal terms step_missing
 step_missing_is_legal = alter_is_legal ▸ may_close (omega arith) refl refl refl refl tt ▸ may_close (omega arith) refl refl refl refl tt
 
 -- but not whole
-step_missing_is_no_run : IsWhole spec scripts (2 ∷ 3 ∷ []) (reverse step_missing) → ⊥
+step_missing_is_no_run : IsWhole spec terms (2 ∷ 3 ∷ []) (reverse step_missing) → ⊥
 step_missing_is_no_run w = cc w.as_due.1.0
 
 -- the whole journal isn't that of the steps in the other order
-order_swapped : IsWhole spec scripts (3 ∷ 2 ∷ []) (reverse journal) → ⊥
+order_swapped : IsWhole spec terms (3 ∷ 2 ∷ []) (reverse journal) → ⊥
 order_swapped w = cc w.as_due.1.1.0
 
 -- The control session is closed first:
@@ -94,11 +94,11 @@ abbrev control_first : List Entry
 control_first = ended_select ++ Close 0 ∷ Close 1 ∷ []
 
 -- that is legal,
-control_first_is_legal : IsLegal scripts control_first
+control_first_is_legal : IsLegal terms control_first
 control_first_is_legal = select_is_legal ▸ may_close (omega arith) refl refl refl refl tt ▸ may_close (omega arith) refl refl refl refl tt
 
 -- but not whole
-control_first_is_no_run : IsWhole spec scripts (2 ∷ 3 ∷ []) (reverse control_first) → ⊥
+control_first_is_no_run : IsWhole spec terms (2 ∷ 3 ∷ []) (reverse control_first) → ⊥
 control_first_is_no_run w = cc w.as_due.1.0
 
 -- After a failed setup the control session is closed last:
@@ -141,11 +141,11 @@ abbrev both_given : List Entry
 both_given = given_create ++ Give 1 2 ∷ []
 
 -- that is legal,
-both_given_is_legal : IsLegal scripts both_given
+both_given_is_legal : IsLegal terms both_given
 both_given_is_legal = tt ▸ may_give (omega arith) refl refl refl refl tt ▸ may_give (omega arith) refl refl refl refl tt
 
 -- but the driver waits
-both_given_is_no_turn : Driven scripts (reverse both_given) → ⊥
+both_given_is_no_turn : Driven terms (reverse both_given) → ⊥
 both_given_is_no_turn d = cc (d.0 0)
 
 -- Session 1 begins, where the control session could go on:
@@ -153,11 +153,11 @@ abbrev later_first : List Entry
 later_first = both_given ++ Start 1 levels.ReadCommitted ∷ []
 
 -- that is legal,
-later_first_is_legal : IsLegal scripts later_first
+later_first_is_legal : IsLegal terms later_first
 later_first_is_legal = both_given_is_legal ▸ may_start refl refl refl tt
 
 -- but not its turn
-later_first_is_no_turn : Driven scripts (reverse later_first) → ⊥
+later_first_is_no_turn : Driven terms (reverse later_first) → ⊥
 later_first_is_no_turn d = let turn : 0 < 1 = omega arith in cc (d.0.1 0 turn)
 
 -- The first step adds a column that is there, and the second reads.

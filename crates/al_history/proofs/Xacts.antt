@@ -3,7 +3,7 @@ use Rattle.std.proofs.Common.{◌≡◌, ℕ, ◌<◌, ◌≤◌, [], ◌∷◌,
 use Rattle.std.specs.Prelude.{◌==◌}
 use Rattle.std.proofs.lemmas.Bool.{eq-eqb, eqb-true, ne_eqb}
 use Rattle.al_history.specs.declared.entry.Entry.TheVariants.{Start, Commit, Abort}
-use Rattle.al_history.specs.declared.statement.Scripts.{Scripts}
+use Rattle.al_history.specs.declared.statement.Terms.{Terms}
 use Rattle.al_history.specs.Past.{Past}
 use Rattle.al_history.specs.Fate.{Open, Committed, Aborted, fate, is_that}
 use Rattle.al_history.specs.Hand.{xact_of, session_of}
@@ -17,17 +17,17 @@ is_start (Start r level ∷ past) y = cond (length past == y) true (is_start pas
 is_start (e ∷ past) y = is_start past y
 
 -- places to come are of no transaction that has ended
-pub open_ahead : (scripts : Scripts) (past : Past) (z : ℕ) → Legal scripts past → length past ≤ z → fate past z ≡ Open
-open_ahead scripts [] z legal le = refl
-open_ahead scripts (Commit x ∷ past) z legal le =
+pub open_ahead : (terms : Terms) (past : Past) (z : ℕ) → Legal terms past → length past ≤ z → fate past z ≡ Open
+open_ahead terms [] z legal le = refl
+open_ahead terms (Commit x ∷ past) z legal le =
     let before : x < length past = xact_below past (session_of past x) x legal.0.rule.open_xact in
     let other : (x == z) ≡ false = ne_eqb x z (λ e. omega arith) in
-    rw other (open_ahead scripts past z legal.1 (omega arith))
-open_ahead scripts (Abort x ∷ past) z legal le =
+    rw other (open_ahead terms past z legal.1 (omega arith))
+open_ahead terms (Abort x ∷ past) z legal le =
     let before : x < length past = xact_below past (session_of past x) x legal.0.rule.open_xact in
     let other : (x == z) ≡ false = ne_eqb x z (λ e. omega arith) in
-    rw other (open_ahead scripts past z legal.1 (omega arith))
-open_ahead scripts (e ∷ past) z legal le = open_ahead scripts past z legal.1 (omega arith)
+    rw other (open_ahead terms past z legal.1 (omega arith))
+open_ahead terms (e ∷ past) z legal le = open_ahead terms past z legal.1 (omega arith)
 
 -- x is the open transaction of the session
 pub record IsXactOf (past : Past) (s x : ℕ) : Type 0 where
@@ -48,32 +48,32 @@ other_end : (past : Past) (s x y : ℕ) → xact_of past s ≡ Some x → is_tha
 other_end past s x y is same = let other : (x == y) ≡ false = rw is at same in turn x y other
 
 -- what a session's transaction is
-pub xact_is : (scripts : Scripts) (past : Past) (s x : ℕ) → Legal scripts past → xact_of past s ≡ Some x → IsXactOf past s x
-xact_is scripts [] s x legal e = absurd cc
-xact_is scripts (Start r level ∷ past) s x legal e = by_test (r == s) refl (λ h. xact_is scripts past s x legal.1 h) e where
+pub xact_is : (terms : Terms) (past : Past) (s x : ℕ) → Legal terms past → xact_of past s ≡ Some x → IsXactOf past s x
+xact_is terms [] s x legal e = absurd cc
+xact_is terms (Start r level ∷ past) s x legal e = by_test (r == s) refl (λ h. xact_is terms past s x legal.1 h) e where
   by_test : (b : Bool) → (r == s) ≡ b → (xact_of past s ≡ Some x → IsXactOf past s x) → cond b (Some (length past)) (xact_of past s) ≡ Some x → IsXactOf (Start r level ∷ past) s x
   by_test true same more is =
       let here : length past ≡ x = cc in
       let here_so : (length past == x) ≡ true = eq-eqb (length past) x here in
-      record { own = rw here_so (eqb-true r s same); undecided = open_ahead scripts past x legal.1 (omega arith); below = omega arith; began = rw here_so refl }
+      record { own = rw here_so (eqb-true r s same); undecided = open_ahead terms past x legal.1 (omega arith); below = omega arith; began = rw here_so refl }
   by_test false same more is =
       let before : IsXactOf past s x = more is in
       let other : (length past == x) ≡ false = ne_eqb (length past) x (λ e. omega (arith, before.below)) in
       grown past _ s x (rw other refl) refl (rw other refl) (omega arith) before
-xact_is scripts (Commit y ∷ past) s x legal e = by_test (is_that (xact_of past s) y) refl (λ h. xact_is scripts past s x legal.1 h) e where
+xact_is terms (Commit y ∷ past) s x legal e = by_test (is_that (xact_of past s) y) refl (λ h. xact_is terms past s x legal.1 h) e where
   by_test : (b : Bool) → is_that (xact_of past s) y ≡ b → (xact_of past s ≡ Some x → IsXactOf past s x) → cond b None (xact_of past s) ≡ Some x → IsXactOf (Commit y ∷ past) s x
   by_test true same more is = absurd cc
   by_test false same more is = grown past _ s x refl (rw (other_end past s x y is same) refl) refl (omega arith) (more is)
-xact_is scripts (Abort y ∷ past) s x legal e = by_test (is_that (xact_of past s) y) refl (λ h. xact_is scripts past s x legal.1 h) e where
+xact_is terms (Abort y ∷ past) s x legal e = by_test (is_that (xact_of past s) y) refl (λ h. xact_is terms past s x legal.1 h) e where
   by_test : (b : Bool) → is_that (xact_of past s) y ≡ b → (xact_of past s ≡ Some x → IsXactOf past s x) → cond b None (xact_of past s) ≡ Some x → IsXactOf (Abort y ∷ past) s x
   by_test true same more is = absurd cc
   by_test false same more is = grown past _ s x refl (rw (other_end past s x y is same) refl) refl (omega arith) (more is)
-xact_is scripts (e ∷ past) s x legal is = grown past _ s x refl refl refl (omega arith) (xact_is scripts past s x legal.1 is)
+xact_is terms (e ∷ past) s x legal is = grown past _ s x refl refl refl (omega arith) (xact_is terms past s x legal.1 is)
 
 -- a transaction that has begun and hasn't ended is that of its session
-pub open_own : (scripts : Scripts) (past : Past) (y : ℕ) → Legal scripts past → is_start past y ≡ true → fate past y ≡ Open → xact_of past (session_of past y) ≡ Some y
-open_own scripts [] y legal began undecided = absurd cc
-open_own scripts (Start r level ∷ past) y legal began undecided = by_test (length past == y) refl began (λ h. open_own scripts past y legal.1 h undecided) where
+pub open_own : (terms : Terms) (past : Past) (y : ℕ) → Legal terms past → is_start past y ≡ true → fate past y ≡ Open → xact_of past (session_of past y) ≡ Some y
+open_own terms [] y legal began undecided = absurd cc
+open_own terms (Start r level ∷ past) y legal began undecided = by_test (length past == y) refl began (λ h. open_own terms past y legal.1 h undecided) where
   by_session : (b : Bool) → (r == session_of past y) ≡ b → xact_of past (session_of past y) ≡ Some y → cond b (Some (length past)) (xact_of past (session_of past y)) ≡ Some y
   by_session true same is = let here : r ≡ session_of past y = eqb-true r (session_of past y) same in let none : xact_of past (session_of past y) ≡ None = rw (← here) legal.0.rule.none_open in absurd cc
   by_session false same is = is
@@ -81,12 +81,12 @@ open_own scripts (Start r level ∷ past) y legal began undecided = by_test (len
   by_test : (b : Bool) → (length past == y) ≡ b → cond b true (is_start past y) ≡ true → (is_start past y ≡ true → xact_of past (session_of past y) ≡ Some y) → xact_of (Start r level ∷ past) (cond b r (session_of past y)) ≡ Some y
   by_test true here began more = rw (if_same r, eqb-true (length past) y here) refl
   by_test false here began more = by_session (r == session_of past y) refl (more began)
-open_own scripts (Commit x ∷ past) y legal began undecided = by_test (x == y) refl undecided (λ h. open_own scripts past y legal.1 began h) where
+open_own terms (Commit x ∷ past) y legal began undecided = by_test (x == y) refl undecided (λ h. open_own terms past y legal.1 began h) where
   by_test : (b : Bool) → (x == y) ≡ b → cond b Committed (fate past y) ≡ Open → (fate past y ≡ Open → xact_of past (session_of past y) ≡ Some y) → xact_of (Commit x ∷ past) (session_of past y) ≡ Some y
   by_test true here undecided more = absurd cc
   by_test false here undecided more = let turned : (y == x) ≡ false = turn x y here in rw (more undecided, turned) refl
-open_own scripts (Abort x ∷ past) y legal began undecided = by_test (x == y) refl undecided (λ h. open_own scripts past y legal.1 began h) where
+open_own terms (Abort x ∷ past) y legal began undecided = by_test (x == y) refl undecided (λ h. open_own terms past y legal.1 began h) where
   by_test : (b : Bool) → (x == y) ≡ b → cond b Aborted (fate past y) ≡ Open → (fate past y ≡ Open → xact_of past (session_of past y) ≡ Some y) → xact_of (Abort x ∷ past) (session_of past y) ≡ Some y
   by_test true here undecided more = absurd cc
   by_test false here undecided more = let turned : (y == x) ≡ false = turn x y here in rw (more undecided, turned) refl
-open_own scripts (e ∷ past) y legal began undecided = open_own scripts past y legal.1 began undecided
+open_own terms (e ∷ past) y legal began undecided = open_own terms past y legal.1 began undecided

@@ -1,19 +1,25 @@
 -- Why a statement is refused (Appendix A; CREATE TABLE, INSERT, SELECT, ALTER TABLE in Part VI).
-use Rattle.std.specs.Prelude.{ℕ, List, [], ◌∷◌, ◌++◌, ◌==◌, Bool, cond, length, nat_lt, Option, Some, None, is_some, option_and_then, Result, Ok, Err}
+use Rattle.std.specs.Prelude.{ℕ, List, [], ◌∷◌, ◌++◌, ◌+◌, ◌==◌, Bool, true, false, cond, length, nat_lt, nat_le, Option, Some, None, is_some, option_map, option_and_then, Result, Ok, Err}
 use Rattle.std.specs.List.{list_any}
+use Rattle.al_values.specs.declared.scalar.Value.{Value}
+use Rattle.al_history.specs.declared.entry.RunLimit.TheVariants as limits
 use Rattle.al_history.specs.declared.entry.Cause.{Cause}
 use Rattle.al_history.specs.declared.entry.Cause.TheVariants as causes
 use Rattle.al_history.specs.declared.entry.Entry.TheVariants.{Cancel}
 use Rattle.al_history.specs.declared.statement.Column.{Column}
 use Rattle.al_history.specs.declared.statement.Statement.{Statement}
 use Rattle.al_history.specs.declared.statement.Statement.TheVariants as statements
-use Rattle.al_history.specs.declared.statement.Scripts.{Scripts}
+use Rattle.al_history.specs.declared.statement.Terms.{Terms}
 use Rattle.al_history.specs.Past.{Past}
 use Rattle.al_history.specs.Database.{Table, Database, same_name, named}
-use Rattle.al_history.specs.Hand.{in_hand, xact_of, look_of, acts_of, BlockState, FailedBlock, block_state}
-use Rattle.al_history.specs.Change.{Alteration, alteration}
+use Rattle.al_history.specs.Hand.{in_hand, xact_of, session_of, look_of, acts_of, BlockState, FailedBlock, block_state}
+use Rattle.al_history.specs.Change.{Alteration, alteration, filled}
+use Rattle.al_history.specs.Query.{column_names, answer}
 use Rattle.al_history.specs.View.{latest}
-use Rattle.al_history.specs.Need.{name_taker}
+use Rattle.al_history.specs.Locks.{Claim, grantable}
+use Rattle.al_history.specs.Waits.{is_blocked}
+use Rattle.al_history.specs.Need.{has_place, lacking, name_taker}
+use Rattle.al_history.specs.Weight.{row_weight, read_weight, weight}
 
 -- the table that the statement uses, where it uses one that has to be there
 abbrev pub used_name : Statement → Option (List ℕ)
@@ -74,18 +80,58 @@ look_cause (statements.Insert name values) [] taker now looked = count_cause (le
 look_cause (statements.Select name) [] taker now looked = None
 look_cause (statements.AddColumn name column) [] taker now looked = alter_cause column (named looked name)
 
-abbrev pub cause_at : Scripts → Past → ℕ → Statement → List ℕ → Option Past → Option Cause
-cause_at scripts past x statement acts None = name_cause statement (latest scripts past x)
-cause_at scripts past x statement acts (Some look) = look_cause statement acts (name_taker past x statement) (latest scripts past x) (latest scripts look x)
+-- ---- the weight of a run's journal is limited
+
+-- What the next entry weighs, where it isn't light. Before the Look it is the lock that the statement lacks, or the wait for it,
+-- and then the Look.
+abbrev pub weight_before : Past → Bool → Option Claim → Option ℕ
+weight_before past false lacks = None
+weight_before past true (Some c) = Some (cond (grantable past c) 1 2)
+weight_before past true None = Some 1
+
+abbrev pub added_weight : List Value → Table → ℕ
+added_weight written t = 1 + row_weight (filled t.columns written)
+
+abbrev pub answered_weight : Table → ℕ
+answered_weight t = read_weight (column_names t) (answer t)
+
+-- After it, it is what the statement does, or its wait for a name.
+abbrev pub weight_after : Statement → List ℕ → Option ℕ → Database → Database → Option ℕ
+weight_after statement (act ∷ acts) taker now looked = None
+weight_after statements.Begin [] taker now looked = None
+weight_after statements.Commit [] taker now looked = None
+weight_after statements.Rollback [] taker now looked = None
+weight_after (statements.CreateTable name columns) [] None now looked = Some (1 + length columns)
+weight_after (statements.CreateTable name columns) [] (Some other) now looked = Some 2
+weight_after (statements.Insert name written) [] taker now looked = option_map (added_weight written) (named now name)
+weight_after (statements.Select name) [] taker now looked = option_map answered_weight (named looked name)
+weight_after (statements.AddColumn name column) [] taker now looked = Some 1
+
+-- an entry of this weight would bring the journal above its limit
+abbrev pub over : Terms → Past → ℕ → Option Cause
+over terms past next = cond (nat_le (weight past + next) terms.weight) None (Some (causes.Limit limits.Journal (weight past + next)))
+
+-- who is blocked makes no entry
+abbrev pub limit_cause : Terms → Past → ℕ → Option ℕ → Option Cause
+limit_cause terms past x next = cond (is_blocked past (session_of past x)) None (option_and_then (over terms past) next)
+
+-- ---- the first cause
+
+abbrev pub first_of : Option Cause → Option Cause → Option Cause
+first_of None cause = cause
+first_of (Some first) cause = Some first
+
+-- a statement with an open transaction: what its name or its Look finds comes first, and then the limit of the journal
+abbrev pub cause_at : Terms → Past → ℕ → Statement → List ℕ → Option Past → Option Cause
+cause_at terms past x statement acts None =
+    first_of (name_cause statement (latest terms past x)) (limit_cause terms past x (weight_before past (has_place statement) (lacking terms past x)))
+cause_at terms past x statement acts (Some look) =
+    first_of (look_cause statement acts (name_taker past x statement) (latest terms past x) (latest terms look x)) (limit_cause terms past x (weight_after statement acts (name_taker past x statement) (latest terms past x) (latest terms look x)))
 
 -- what is said of the statement in hand, whatever else is true, right after its step was cancelled
 abbrev pub cancel_cause : Past → ℕ → Option Cause
 cancel_cause (Cancel r ∷ past) s = cond (r == s) (Some (causes.Cancelled (length past))) None
 cancel_cause past s = None
-
-abbrev pub first_of : Option Cause → Option Cause → Option Cause
-first_of None cause = cause
-first_of (Some first) cause = Some first
 
 -- in a failed block every statement is refused but the two that end it
 abbrev pub block_cause : BlockState → Statement → Option Cause
@@ -96,10 +142,10 @@ block_cause state statement = None
 
 -- the first cause that is true of the statement in hand: that of the block first, then those of a statement with an open
 -- transaction
-abbrev pub judged_cause : Scripts → Past → ℕ → Option Cause
-judged_cause scripts past s =
-    option_and_then (λ statement. first_of (block_cause (block_state past s) statement) (option_and_then (λ x. cause_at scripts past x statement (acts_of past s) (look_of past s)) (xact_of past s))) (in_hand scripts past s)
+abbrev pub judged_cause : Terms → Past → ℕ → Option Cause
+judged_cause terms past s =
+    option_and_then (λ statement. first_of (block_cause (block_state past s) statement) (option_and_then (λ x. cause_at terms past x statement (acts_of past s) (look_of past s)) (xact_of past s))) (in_hand terms past s)
 
 -- the cause for which the statement in hand has to be refused
-abbrev pub cause_of : Scripts → Past → ℕ → Option Cause
-cause_of scripts past s = first_of (cancel_cause past s) (judged_cause scripts past s)
+abbrev pub cause_of : Terms → Past → ℕ → Option Cause
+cause_of terms past s = first_of (cancel_cause past s) (judged_cause terms past s)

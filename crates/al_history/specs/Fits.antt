@@ -4,7 +4,7 @@ use Rattle.al_values.specs.declared.scalar.Value.{Value}
 use Rattle.al_history.specs.declared.entry.Entry.TheVariants.{Make, Add, Alter, Commit, Abort}
 use Rattle.al_history.specs.declared.statement.Column.{Column}
 use Rattle.al_history.specs.declared.statement.Statement.TheVariants as statements
-use Rattle.al_history.specs.declared.statement.Scripts.{Scripts}
+use Rattle.al_history.specs.declared.statement.Terms.{Terms}
 use Rattle.al_history.specs.Past.{Past}
 use Rattle.al_history.specs.Database.{named, has_column}
 use Rattle.al_history.specs.Fate.{Open, Committed, Aborted, fate}
@@ -27,23 +27,23 @@ EachOf number P [] = Unit {0}
 EachOf number P (t ∷ tables) = (t.number ≡ number → P t) × EachOf number P tables
 
 -- a new table has a number and a name that nobody sees yet who sees its maker
-pub record MakeFits (scripts : Scripts) (past : Past) (x table : ℕ) (name : List ℕ) : Type 0 where
+pub record MakeFits (terms : Terms) (past : Past) (x table : ℕ) (name : List ℕ) : Type 0 where
   pub number : table ≡ length past
-  pub unnamed : (f : ℕ → Bool) → CanSee past f → f x ≡ true → is_some (named (shown f (store scripts past)) name) ≡ false
+  pub unnamed : (f : ℕ → Bool) → CanSee past f → f x ≡ true → is_some (named (shown f (store terms past)) name) ≡ false
 
 -- who sees a new row sees the columns that its maker saw
-pub record AddFits (scripts : Scripts) (past : Past) (x table : ℕ) (row : List Value) : Type 0 where
-  pub fits : (f : ℕ → Bool) → CanSee past f → f x ≡ true → EachOf table (λ t. f t.maker ≡ true → Agree f (sees past (Some x)) t.slots × (length row ≡ length (shown_columns f t.slots))) (store scripts past)
+pub record AddFits (terms : Terms) (past : Past) (x table : ℕ) (row : List Value) : Type 0 where
+  pub fits : (f : ℕ → Bool) → CanSee past f → f x ≡ true → EachOf table (λ t. f t.maker ≡ true → Agree f (sees past (Some x)) t.slots × (length row ≡ length (shown_columns f t.slots))) (store terms past)
 
 -- who sees a new column sees no other of its name
-pub record AlterFits (scripts : Scripts) (past : Past) (x table statement : ℕ) : Type 0 where
-  pub absent : (f : ℕ → Bool) → CanSee past f → f x ≡ true → (name : List ℕ) (column : Column) → statement_of scripts (hand past (session_of past x)) statement ≡ Some (statements.AddColumn name column) → EachOf table (λ t. f t.maker ≡ true → has_column (shown_columns f t.slots) column.name ≡ false) (store scripts past)
+pub record AlterFits (terms : Terms) (past : Past) (x table statement : ℕ) : Type 0 where
+  pub absent : (f : ℕ → Bool) → CanSee past f → f x ≡ true → (name : List ℕ) (column : Column) → statement_of terms (hand past (session_of past x)) statement ≡ Some (statements.AddColumn name column) → EachOf table (λ t. f t.maker ≡ true → has_column (shown_columns f t.slots) column.name ≡ false) (store terms past)
 
-abbrev pub Fits : Scripts → Past → Type 0
-Fits scripts [] = Unit {0}
-Fits scripts (Make x table name shape ∷ past) = MakeFits scripts past x table name × Fits scripts past
-Fits scripts (Add x table row ∷ past) = AddFits scripts past x table row × Fits scripts past
-Fits scripts (Alter x table statement rewritten ∷ past) = AlterFits scripts past x table statement × Fits scripts past
-Fits scripts (Commit x ∷ past) = (fate past x ≡ Open) × Fits scripts past
-Fits scripts (Abort x ∷ past) = (fate past x ≡ Open) × Fits scripts past
-Fits scripts (e ∷ past) = Fits scripts past
+abbrev pub Fits : Terms → Past → Type 0
+Fits terms [] = Unit {0}
+Fits terms (Make x table name shape ∷ past) = MakeFits terms past x table name × Fits terms past
+Fits terms (Add x table row ∷ past) = AddFits terms past x table row × Fits terms past
+Fits terms (Alter x table statement rewritten ∷ past) = AlterFits terms past x table statement × Fits terms past
+Fits terms (Commit x ∷ past) = (fate past x ≡ Open) × Fits terms past
+Fits terms (Abort x ∷ past) = (fate past x ≡ Open) × Fits terms past
+Fits terms (e ∷ past) = Fits terms past

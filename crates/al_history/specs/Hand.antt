@@ -6,7 +6,7 @@ use Rattle.al_history.specs.declared.entry.Reply.TheVariants as replies
 use Rattle.al_history.specs.declared.entry.Tag.TheVariants as tags
 use Rattle.al_history.specs.declared.statement.Statement.{Statement}
 use Rattle.al_history.specs.declared.statement.ScriptBlock.{ScriptBlock}
-use Rattle.al_history.specs.declared.statement.Scripts.{Scripts}
+use Rattle.al_history.specs.declared.statement.Terms.{Terms}
 use Rattle.al_history.specs.Past.{Past}
 use Rattle.al_history.specs.Fate.{is_that}
 
@@ -32,13 +32,13 @@ refused (Refuse r cause ∷ past) s = cond (r == s) true (refused past s)
 refused (e ∷ past) s = refused past s
 
 -- the statement of a number in a block
-abbrev pub statement_of : Scripts → Option ℕ → ℕ → Option Statement
-statement_of scripts None number = None
-statement_of scripts (Some block) number = option_and_then (λ (b : ScriptBlock). slice_get b.script number) (slice_get scripts.blocks block)
+abbrev pub statement_of : Terms → Option ℕ → ℕ → Option Statement
+statement_of terms None number = None
+statement_of terms (Some block) number = option_and_then (λ (b : ScriptBlock). slice_get b.script number) (slice_get terms.scripts.blocks block)
 
 -- the statement in hand: the one whose number in the block is the count of those done
-abbrev pub in_hand : Scripts → Past → ℕ → Option Statement
-in_hand scripts past s = statement_of scripts (hand past s) (dones past s)
+abbrev pub in_hand : Terms → Past → ℕ → Option Statement
+in_hand terms past s = statement_of terms (hand past s) (dones past s)
 
 -- the session's open transaction, which is named by the place of its Start
 abbrev pub xact_of : Past → ℕ → Option ℕ

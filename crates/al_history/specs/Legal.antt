@@ -1,7 +1,7 @@
 -- Legal histories of a one-thread multiversion machine.
 use Rattle.std.specs.Prelude.{◌≡◌, ℕ, List, [], ◌∷◌, reverse, Bool, true, false, Contains, flat_map, cond, ◌==◌}
 use Rattle.al_history.specs.declared.entry.Entry.{Entry}
-use Rattle.al_history.specs.declared.statement.Scripts.{Scripts}
+use Rattle.al_history.specs.declared.statement.Terms.{Terms}
 use Rattle.al_history.specs.Past.{Past}
 use Rattle.al_history.specs.Constraint.{Constraint}
 use Rattle.al_history.specs.Database.{Table, Database, Holds, breaking}
@@ -18,19 +18,19 @@ Unless false asked = asked
 
 -- An entry may come: its rule is met, and no table is used that another has alone. Each but the lock of a request that waits
 -- comes where no waiting request can be granted, and is the one that is owed where one is.
-pub record MayCome (scripts : Scripts) (past : Past) (e : Entry) : Type 0 where
-  pub rule : Rule scripts past e
+pub record MayCome (terms : Terms) (past : Past) (e : Entry) : Type 0 where
+  pub rule : Rule terms past e
   pub settled : Unless (is_grant past e) (is_settled past ≡ true)
-  pub follows : Unless (is_grant past e) (Follows (owed scripts past) e)
-  pub alone : Alone scripts past e
+  pub follows : Unless (is_grant past e) (Follows (owed terms past) e)
+  pub alone : Alone terms past e
 
 -- each entry may come after those before it
-abbrev pub Legal : Scripts → Past → Type 0
-Legal scripts [] = Unit {0}
-Legal scripts (e ∷ past) = MayCome scripts past e × Legal scripts past
+abbrev pub Legal : Terms → Past → Type 0
+Legal terms [] = Unit {0}
+Legal terms (e ∷ past) = MayCome terms past e × Legal terms past
 
-abbrev pub IsLegal : Scripts → List Entry → Type 0
-IsLegal scripts journal = Legal scripts (reverse journal)
+abbrev pub IsLegal : Terms → List Entry → Type 0
+IsLegal terms journal = Legal terms (reverse journal)
 
 -- the rows of a table that break a constraint
 abbrev pub bad : Constraint → Database → List ℕ
@@ -41,6 +41,6 @@ abbrev pub AllHold : Database → Type 0
 AllHold db = (t : Table) → Contains db t → (c : Constraint) → Contains t.constraints c → c.valid ≡ true → Holds c.demand t db
 
 -- every committed constraint that is valid holds of all committed rows, at every moment
-abbrev pub HoldAlways : Scripts → Past → Type 0
-HoldAlways scripts [] = AllHold (committed scripts [])
-HoldAlways scripts (e ∷ past) = AllHold (committed scripts (e ∷ past)) × HoldAlways scripts past
+abbrev pub HoldAlways : Terms → Past → Type 0
+HoldAlways terms [] = AllHold (committed terms [])
+HoldAlways terms (e ∷ past) = AllHold (committed terms (e ∷ past)) × HoldAlways terms past

@@ -1,12 +1,12 @@
 -- What a statement needs before it acts: the locks of its tables (13.3.1), and for a new table a name that nobody else has
 -- made (CREATE TABLE in Part VI).
-use Rattle.std.specs.Prelude.{ℕ, List, [], ◌∷◌, ◌++◌, not, cond, ◌==◌, ◌&&◌, Option, Some, None, option_and_then}
+use Rattle.std.specs.Prelude.{ℕ, List, [], ◌∷◌, ◌++◌, Bool, true, false, not, cond, ◌==◌, ◌&&◌, Option, Some, None, option_and_then}
 use Rattle.al_modes.specs.declared.mode.Mode.{Mode}
 use Rattle.al_modes.specs.declared.mode.Mode.TheVariants.{AccessShare, RowExclusive, AccessExclusive}
 use Rattle.al_history.specs.declared.entry.Entry.TheVariants.{Make}
 use Rattle.al_history.specs.declared.statement.Statement.{Statement}
 use Rattle.al_history.specs.declared.statement.Statement.TheVariants as statements
-use Rattle.al_history.specs.declared.statement.Scripts.{Scripts}
+use Rattle.al_history.specs.declared.statement.Terms.{Terms}
 use Rattle.al_history.specs.Past.{Past}
 use Rattle.al_history.specs.Database.{Table, Database, same_name, named}
 use Rattle.al_history.specs.Fate.{fate}
@@ -14,6 +14,13 @@ use Rattle.al_history.specs.Hand.{in_hand, session_of}
 use Rattle.al_history.specs.Locks.{Claim, held, is_held}
 use Rattle.al_history.specs.Waits.{is_open}
 use Rattle.al_history.specs.View.{latest}
+
+-- whether a statement has a place: BEGIN, COMMIT and ROLLBACK have none
+abbrev pub has_place : Statement → Bool
+has_place statements.Begin = false
+has_place statements.Commit = false
+has_place statements.Rollback = false
+has_place statement = true
 
 abbrev pub lock_of : ℕ → Mode → Option Table → List Claim
 lock_of s mode None = []
@@ -33,8 +40,8 @@ first_lacking held [] = None
 first_lacking held (c ∷ claims) = cond (is_held held c) (first_lacking held claims) (Some c)
 
 -- the lock that the statement in hand has to get next, by the newest committed and own tables
-abbrev pub lacking : Scripts → Past → ℕ → Option Claim
-lacking scripts past x = option_and_then (λ statement. first_lacking (held past) (need (session_of past x) statement (latest scripts past x))) (in_hand scripts past (session_of past x))
+abbrev pub lacking : Terms → Past → ℕ → Option Claim
+lacking terms past x = option_and_then (λ statement. first_lacking (held past) (need (session_of past x) statement (latest terms past x))) (in_hand terms past (session_of past x))
 
 -- the transactions that have made a table of this name, oldest first
 abbrev pub makers : Past → List ℕ → List ℕ

@@ -18,7 +18,7 @@ use Rattle.al_history.specs.declared.statement.Column.{Column}
 use Rattle.al_history.specs.declared.statement.ScriptBlock.{ScriptBlock}
 use Rattle.al_history.specs.declared.statement.Statement.{Statement}
 use Rattle.al_history.specs.declared.statement.Statement.TheVariants as statements
-use Rattle.al_history.specs.declared.statement.Scripts.{Scripts}
+use Rattle.al_history.specs.declared.statement.Terms.{Terms}
 use Rattle.al_history.specs.Past.{Past}
 use Rattle.al_history.specs.Database.{Table, Database, named}
 use Rattle.al_history.specs.Hand.{hand, dones, refused, in_hand, xact_of, implicit_of, session_of, look_of, acts_of, closed, BlockState, FailedBlock, block_state}
@@ -27,13 +27,13 @@ use Rattle.al_history.specs.Change.{shape_of, filled, alteration, altered, Passe
 use Rattle.al_history.specs.View.{latest}
 use Rattle.al_history.specs.Locks.{Claim, claim, grantable, is_waiting}
 use Rattle.al_history.specs.Waits.{can_go_on}
-use Rattle.al_history.specs.Need.{lacking, makers, first_open, name_taker}
+use Rattle.al_history.specs.Need.{has_place, lacking, makers, first_open, name_taker}
 use Rattle.al_history.specs.Cause.{cause_of}
 
 -- a block is given to its session, which isn't closed and has no step in hand
-pub record GiveRule (scripts : Scripts) (past : Past) (s block : ℕ) : Type 0 where
-  pub known : s < scripts.sessions
-  pub of_session : option_map (λ (b : ScriptBlock). b.session) (slice_get scripts.blocks block) ≡ Some s
+pub record GiveRule (terms : Terms) (past : Past) (s block : ℕ) : Type 0 where
+  pub known : s < terms.scripts.sessions
+  pub of_session : option_map (λ (b : ScriptBlock). b.session) (slice_get terms.scripts.blocks block) ≡ Some s
   pub not_closed : closed past s ≡ false
   pub idle : hand past s ≡ None
 
@@ -45,38 +45,31 @@ starts state statements.Rollback = false
 starts state statement = true
 
 -- a transaction begins for a statement in hand that needs one, where none is open, READ COMMITTED
-pub record StartRule (scripts : Scripts) (past : Past) (s : ℕ) (level : Level) : Type 0 where
-  pub statement : option_map (starts (block_state past s)) (in_hand scripts past s) ≡ Some true
+pub record StartRule (terms : Terms) (past : Past) (s : ℕ) (level : Level) : Type 0 where
+  pub statement : option_map (starts (block_state past s)) (in_hand terms past s) ≡ Some true
   pub none_open : xact_of past s ≡ None
   pub read_committed : level ≡ levels.ReadCommitted
 
--- whether a statement has a place: BEGIN, COMMIT and ROLLBACK have none
-abbrev pub has_place : Statement → Bool
-has_place statements.Begin = false
-has_place statements.Commit = false
-has_place statements.Rollback = false
-has_place statement = true
-
 -- A statement waits where nobody holds it up yet: before its Look for the first lock that it lacks, where this can't be
 -- granted, and after it for the end of the open transaction that is in the way of its new table's name.
-abbrev pub WaitsFor : Scripts → Past → ℕ → Want → Option Past → Type 0
-WaitsFor scripts past x (wants.Table table mode) look =
-    (look ≡ None) × (lacking scripts past x ≡ Some (claim past x table mode)) × (grantable past (claim past x table mode) ≡ false)
-WaitsFor scripts past x (wants.Ends y) look = IsSome look × (option_and_then (name_taker past x) (in_hand scripts past (session_of past x)) ≡ Some y) × (acts_of past (session_of past x) ≡ [])
+abbrev pub WaitsFor : Terms → Past → ℕ → Want → Option Past → Type 0
+WaitsFor terms past x (wants.Table table mode) look =
+    (look ≡ None) × (lacking terms past x ≡ Some (claim past x table mode)) × (grantable past (claim past x table mode) ≡ false)
+WaitsFor terms past x (wants.Ends y) look = IsSome look × (option_and_then (name_taker past x) (in_hand terms past (session_of past x)) ≡ Some y) × (acts_of past (session_of past x) ≡ [])
 
-pub record WaitRule (scripts : Scripts) (past : Past) (x : ℕ) (want : Want) : Type 0 where
+pub record WaitRule (terms : Terms) (past : Past) (x : ℕ) (want : Want) : Type 0 where
   pub open_xact : xact_of past (session_of past x) ≡ Some x
   pub in_step : can_go_on past (session_of past x) ≡ true
-  pub waits_for : WaitsFor scripts past x want (look_of past (session_of past x))
-  pub not_refused : cause_of scripts past (session_of past x) ≡ None
+  pub waits_for : WaitsFor terms past x want (look_of past (session_of past x))
+  pub not_refused : cause_of terms past (session_of past x) ≡ None
 
 -- a lock is got that can be granted: the one that the transaction waits for, or the first that its statement lacks before its
 -- Look
-pub record LacksLock (scripts : Scripts) (past : Past) (x : ℕ) (request : Claim) : Type 0 where
+pub record LacksLock (terms : Terms) (past : Past) (x : ℕ) (request : Claim) : Type 0 where
   pub not_waiting : is_waiting past request ≡ false
-  pub lacks : lacking scripts past x ≡ Some request
+  pub lacks : lacking terms past x ≡ Some request
   pub before_look : look_of past (session_of past x) ≡ None
-  pub not_refused : cause_of scripts past (session_of past x) ≡ None
+  pub not_refused : cause_of terms past (session_of past x) ≡ None
 
 -- granted locks come by ascending table number
 abbrev pub Ascends : Past → ℕ → Type 0
@@ -87,43 +80,43 @@ pub record WaitsForLock (past : Past) (request : Claim) : Type 0 where
   pub waits : is_waiting past request ≡ true
   pub ascends : Ascends past request.table
 
-pub record LockRule (scripts : Scripts) (past : Past) (x table : ℕ) (mode : Mode) : Type 0 where
+pub record LockRule (terms : Terms) (past : Past) (x table : ℕ) (mode : Mode) : Type 0 where
   pub open_xact : xact_of past (session_of past x) ≡ Some x
   pub can_be : grantable past (claim past x table mode) ≡ true
-  pub asked : WaitsForLock past (claim past x table mode) ⊎ LacksLock scripts past x (claim past x table mode)
+  pub asked : WaitsForLock past (claim past x table mode) ⊎ LacksLock terms past x (claim past x table mode)
 
 -- the statement in hand of an open transaction gets its place, once, where the table that it uses is there and its locks are
 -- held
-pub record LookRule (scripts : Scripts) (past : Past) (x : ℕ) : Type 0 where
+pub record LookRule (terms : Terms) (past : Past) (x : ℕ) : Type 0 where
   pub open_xact : xact_of past (session_of past x) ≡ Some x
-  pub statement : option_map has_place (in_hand scripts past (session_of past x)) ≡ Some true
+  pub statement : option_map has_place (in_hand terms past (session_of past x)) ≡ Some true
   pub first : look_of past (session_of past x) ≡ None
-  pub locked : lacking scripts past x ≡ None
-  pub not_refused : cause_of scripts past (session_of past x) ≡ None
+  pub locked : lacking terms past x ≡ None
+  pub not_refused : cause_of terms past (session_of past x) ≡ None
 
 -- what the statement does is of an open transaction that has looked and holds its locks, comes first, and no cause of refusal
 -- is true
-pub record ActRule (scripts : Scripts) (past : Past) (x : ℕ) : Type 0 where
+pub record ActRule (terms : Terms) (past : Past) (x : ℕ) : Type 0 where
   pub open_xact : xact_of past (session_of past x) ≡ Some x
   pub looked : IsSome (look_of past (session_of past x))
   pub first : acts_of past (session_of past x) ≡ []
-  pub locked : lacking scripts past x ≡ None
-  pub not_refused : cause_of scripts past (session_of past x) ≡ None
+  pub locked : lacking terms past x ≡ None
+  pub not_refused : cause_of terms past (session_of past x) ≡ None
 
 -- the database at the statement's Look, for its transaction
-abbrev pub looked_at : Scripts → Option Past → ℕ → Database
-looked_at scripts None x = []
-looked_at scripts (Some look) x = latest scripts look x
+abbrev pub looked_at : Terms → Option Past → ℕ → Database
+looked_at terms None x = []
+looked_at terms (Some look) x = latest terms look x
 
 -- CREATE TABLE makes a table of its name and columns
 abbrev pub Creates : Option Statement → List ℕ → List Column → Type 0
 Creates (Some (statements.CreateTable table columns)) name shape = (name ≡ table) × (shape ≡ shape_of columns)
 Creates statement name shape = ⊥
 
-pub record MakeRule (scripts : Scripts) (past : Past) (x table : ℕ) (name : List ℕ) (shape : List Column) : Type 0 where
-  pub act : ActRule scripts past x
+pub record MakeRule (terms : Terms) (past : Past) (x table : ℕ) (name : List ℕ) (shape : List Column) : Type 0 where
+  pub act : ActRule terms past x
   pub free : first_open past x (makers past name) ≡ None
-  pub creates : Creates (in_hand scripts past (session_of past x)) name shape
+  pub creates : Creates (in_hand terms past (session_of past x)) name shape
   pub number : table ≡ length past
 
 -- INSERT adds its row, with the defaults of the columns that it has no value for
@@ -135,9 +128,9 @@ abbrev pub Inserts : Option Statement → Database → ℕ → List Value → Ty
 Inserts (Some (statements.Insert name written)) db table row = IsFilled (named db name) written table row
 Inserts statement db table row = ⊥
 
-pub record AddRule (scripts : Scripts) (past : Past) (x table : ℕ) (row : List Value) : Type 0 where
-  pub act : ActRule scripts past x
-  pub inserts : Inserts (in_hand scripts past (session_of past x)) (latest scripts past x) table row
+pub record AddRule (terms : Terms) (past : Past) (x table : ℕ) (row : List Value) : Type 0 where
+  pub act : ActRule terms past x
+  pub inserts : Inserts (in_hand terms past (session_of past x)) (latest terms past x) table row
 
 -- SELECT reads the names of the columns and all rows, as at its Look
 abbrev pub IsAnswer : Option Table → List (List ℕ) → List (List Value) → Type 0
@@ -148,9 +141,9 @@ abbrev pub Selects : Option Statement → Database → List (List ℕ) → List 
 Selects (Some (statements.Select name)) db names rows = IsAnswer (named db name) names rows
 Selects statement db names rows = ⊥
 
-pub record ReadRule (scripts : Scripts) (past : Past) (x : ℕ) (names : List (List ℕ)) (rows : List (List Value)) : Type 0 where
-  pub act : ActRule scripts past x
-  pub selects : Selects (in_hand scripts past (session_of past x)) (looked_at scripts (look_of past (session_of past x)) x) names rows
+pub record ReadRule (terms : Terms) (past : Past) (x : ℕ) (names : List (List ℕ)) (rows : List (List Value)) : Type 0 where
+  pub act : ActRule terms past x
+  pub selects : Selects (in_hand terms past (session_of past x)) (looked_at terms (look_of past (session_of past x)) x) names rows
 
 -- ALTER TABLE alters the table of its name, where its shape isn't refused and its tests hold; adding a column rewrites no
 -- table
@@ -162,9 +155,9 @@ abbrev pub Alters : Option Statement → Database → ℕ → Type 0
 Alters (Some (statements.AddColumn name column)) db table = IsAltered (named db name) column db table
 Alters statement db table = ⊥
 
-pub record AlterRule (scripts : Scripts) (past : Past) (x table statement : ℕ) (rewritten : List Rewritten) : Type 0 where
-  pub act : ActRule scripts past x
-  pub alters : Alters (in_hand scripts past (session_of past x)) (latest scripts past x) table
+pub record AlterRule (terms : Terms) (past : Past) (x table statement : ℕ) (rewritten : List Rewritten) : Type 0 where
+  pub act : ActRule terms past x
+  pub alters : Alters (in_hand terms past (session_of past x)) (latest terms past x) table
   pub number : statement ≡ dones past (session_of past x)
   pub none_rewritten : rewritten ≡ []
 
@@ -185,56 +178,56 @@ Answers (Some (statements.Select name)) (act ∷ []) x state reply = reply ≡ r
 Answers (Some (statements.AddColumn name column)) (act ∷ []) x state reply = reply ≡ replies.Tag tags.AlterTable 0
 Answers statement acts x state reply = ⊥
 
-pub record DoneRule (scripts : Scripts) (past : Past) (s : ℕ) (reply : Reply) : Type 0 where
-  pub answers : Answers (in_hand scripts past s) (acts_of past s) (xact_of past s) (block_state past s) reply
+pub record DoneRule (terms : Terms) (past : Past) (s : ℕ) (reply : Reply) : Type 0 where
+  pub answers : Answers (in_hand terms past s) (acts_of past s) (xact_of past s) (block_state past s) reply
 
 -- a statement is refused for the first cause that is true
-pub record RefuseRule (scripts : Scripts) (past : Past) (s : ℕ) (cause : Cause) : Type 0 where
-  pub first_true : cause_of scripts past s ≡ Some cause
+pub record RefuseRule (terms : Terms) (past : Past) (s : ℕ) (cause : Cause) : Type 0 where
+  pub first_true : cause_of terms past s ≡ Some cause
 
 -- an implicit transaction commits with its step, once each statement is done; COMMIT commits the open one
-pub record CommitRule (scripts : Scripts) (past : Past) (x : ℕ) : Type 0 where
+pub record CommitRule (terms : Terms) (past : Past) (x : ℕ) : Type 0 where
   pub open_xact : xact_of past (session_of past x) ≡ Some x
   pub in_step : IsSome (hand past (session_of past x))
   pub none_refused : refused past (session_of past x) ≡ false
-  pub ends : ((in_hand scripts past (session_of past x) ≡ None) × (implicit_of past (session_of past x) ≡ Some x)) ⊎ (in_hand scripts past (session_of past x) ≡ Some statements.Commit)
+  pub ends : ((in_hand terms past (session_of past x) ≡ None) × (implicit_of past (session_of past x) ≡ Some x)) ⊎ (in_hand terms past (session_of past x) ≡ Some statements.Commit)
 
 -- a transaction aborts after a refusal, by ROLLBACK, or before its idle session is closed
-pub record AbortRule (scripts : Scripts) (past : Past) (x : ℕ) : Type 0 where
+pub record AbortRule (terms : Terms) (past : Past) (x : ℕ) : Type 0 where
   pub open_xact : xact_of past (session_of past x) ≡ Some x
-  pub refused_or_idle : ((refused past (session_of past x) ≡ true) ⊎ (hand past (session_of past x) ≡ None)) ⊎ (in_hand scripts past (session_of past x) ≡ Some statements.Rollback)
+  pub refused_or_idle : ((refused past (session_of past x) ≡ true) ⊎ (hand past (session_of past x) ≡ None)) ⊎ (in_hand terms past (session_of past x) ≡ Some statements.Rollback)
 
 -- a step in hand is cancelled
-pub record CancelRule (scripts : Scripts) (past : Past) (s : ℕ) : Type 0 where
+pub record CancelRule (terms : Terms) (past : Past) (s : ℕ) : Type 0 where
   pub in_step : IsSome (hand past s)
 
 -- a step ends when no statement is left or one was refused, and its implicit transaction has ended
-pub record EndRule (scripts : Scripts) (past : Past) (s : ℕ) : Type 0 where
+pub record EndRule (terms : Terms) (past : Past) (s : ℕ) : Type 0 where
   pub in_step : IsSome (hand past s)
-  pub over : (in_hand scripts past s ≡ None) ⊎ (refused past s ≡ true)
+  pub over : (in_hand terms past s ≡ None) ⊎ (refused past s ≡ true)
   pub none_implicit : implicit_of past s ≡ None
 
 -- an idle session without a transaction is closed, once
-pub record CloseRule (scripts : Scripts) (past : Past) (s : ℕ) : Type 0 where
-  pub known : s < scripts.sessions
+pub record CloseRule (terms : Terms) (past : Past) (s : ℕ) : Type 0 where
+  pub known : s < terms.scripts.sessions
   pub idle : hand past s ≡ None
   pub not_closed : closed past s ≡ false
   pub none_open : xact_of past s ≡ None
 
-abbrev pub Rule : Scripts → Past → Entry → Type 0
-Rule scripts past (Give s block) = GiveRule scripts past s block
-Rule scripts past (Start s level) = StartRule scripts past s level
-Rule scripts past (Wait x want) = WaitRule scripts past x want
-Rule scripts past (Lock x table mode) = LockRule scripts past x table mode
-Rule scripts past (Look x) = LookRule scripts past x
-Rule scripts past (Make x table name shape) = MakeRule scripts past x table name shape
-Rule scripts past (Add x table row) = AddRule scripts past x table row
-Rule scripts past (Read x names rows) = ReadRule scripts past x names rows
-Rule scripts past (Alter x table statement rewritten) = AlterRule scripts past x table statement rewritten
-Rule scripts past (Done s reply) = DoneRule scripts past s reply
-Rule scripts past (Refuse s cause) = RefuseRule scripts past s cause
-Rule scripts past (Commit x) = CommitRule scripts past x
-Rule scripts past (Abort x) = AbortRule scripts past x
-Rule scripts past (Cancel s) = CancelRule scripts past s
-Rule scripts past (End s) = EndRule scripts past s
-Rule scripts past (Close s) = CloseRule scripts past s
+abbrev pub Rule : Terms → Past → Entry → Type 0
+Rule terms past (Give s block) = GiveRule terms past s block
+Rule terms past (Start s level) = StartRule terms past s level
+Rule terms past (Wait x want) = WaitRule terms past x want
+Rule terms past (Lock x table mode) = LockRule terms past x table mode
+Rule terms past (Look x) = LookRule terms past x
+Rule terms past (Make x table name shape) = MakeRule terms past x table name shape
+Rule terms past (Add x table row) = AddRule terms past x table row
+Rule terms past (Read x names rows) = ReadRule terms past x names rows
+Rule terms past (Alter x table statement rewritten) = AlterRule terms past x table statement rewritten
+Rule terms past (Done s reply) = DoneRule terms past s reply
+Rule terms past (Refuse s cause) = RefuseRule terms past s cause
+Rule terms past (Commit x) = CommitRule terms past x
+Rule terms past (Abort x) = AbortRule terms past x
+Rule terms past (Cancel s) = CancelRule terms past s
+Rule terms past (End s) = EndRule terms past s
+Rule terms past (Close s) = CloseRule terms past s

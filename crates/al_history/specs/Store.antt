@@ -5,7 +5,7 @@ use Rattle.al_history.specs.declared.entry.Entry.TheVariants.{Make, Add, Alter}
 use Rattle.al_history.specs.declared.statement.Column.{Column}
 use Rattle.al_history.specs.declared.statement.Statement.{Statement}
 use Rattle.al_history.specs.declared.statement.Statement.TheVariants as statements
-use Rattle.al_history.specs.declared.statement.Scripts.{Scripts}
+use Rattle.al_history.specs.declared.statement.Terms.{Terms}
 use Rattle.al_history.specs.Past.{Past}
 use Rattle.al_history.specs.Database.{VersionedRow, Table, Database}
 use Rattle.al_history.specs.Fate.{Fate, Committed, fate, is_that, Standing, Inside, Absent}
@@ -93,9 +93,9 @@ abbrev pub slots_of : ℕ → List Column → List Slot
 slots_of maker columns = map (λ (c : Column). record { maker = maker; column = c }) columns
 
 -- Everything is kept, in the order in which it was made. Commits and aborts change nothing here.
-abbrev pub store : Scripts → Past → List KeptTable
-store scripts [] = []
-store scripts (Make x table name shape ∷ past) = store scripts past ++ record { number = table; maker = x; name = name; slots = slots_of x shape; rows = [] } ∷ []
-store scripts (Add x table row ∷ past) = with_kept table (kept_row (length past) x (sees past (Some x)) row) (store scripts past)
-store scripts (Alter x table statement rewritten ∷ past) = with_kept table (kept_slot (statement_of scripts (hand past (session_of past x)) statement) x) (store scripts past)
-store scripts (e ∷ past) = store scripts past
+abbrev pub store : Terms → Past → List KeptTable
+store terms [] = []
+store terms (Make x table name shape ∷ past) = store terms past ++ record { number = table; maker = x; name = name; slots = slots_of x shape; rows = [] } ∷ []
+store terms (Add x table row ∷ past) = with_kept table (kept_row (length past) x (sees past (Some x)) row) (store terms past)
+store terms (Alter x table statement rewritten ∷ past) = with_kept table (kept_slot (statement_of terms (hand past (session_of past x)) statement) x) (store terms past)
+store terms (e ∷ past) = store terms past

@@ -6,7 +6,7 @@ use Rattle.al_history.specs.declared.entry.Cause.TheVariants as causes
 use Rattle.al_history.specs.declared.entry.Reply.TheVariants as replies
 use Rattle.al_history.specs.declared.entry.Tag.TheVariants as tags
 use Rattle.al_history.specs.declared.statement.Statement.{Statement}
-use Rattle.al_history.specs.declared.statement.Scripts.{Scripts}
+use Rattle.al_history.specs.declared.statement.Terms.{Terms}
 use Rattle.al_history.specs.Past.{Past}
 use Rattle.al_history.specs.Hand.{hand, refused, in_hand, xact_of, implicit_of, session_of}
 
@@ -36,14 +36,14 @@ if_last (Some statement) next = None
 -- the entry that has to come next, where one has to: after a Cancel the Refuse of the statement in hand; after a Refuse
 -- the Abort of an open transaction; after the last Done the Commit of an implicit one; after these the Done of a COMMIT
 -- or ROLLBACK, the End of the step, or the Close of an idle session. Locks that become free are granted in between.
-abbrev pub owed : Scripts → Past → Option Entry
-owed scripts (Cancel s ∷ past) = Some (Refuse s (causes.Cancelled (length past)))
-owed scripts (Refuse s cause ∷ past) = Some (abort_or_end (xact_of past s) s)
-owed scripts (Done s reply ∷ past) = if_last (in_hand scripts (Done s reply ∷ past) s) (commit_or_end (implicit_of (Done s reply ∷ past) s) s)
-owed scripts (Commit x ∷ past) = Some (done_or_end (in_hand scripts past (session_of past x)) (session_of past x))
-owed scripts (Abort x ∷ past) = Some (after_abort (hand past (session_of past x)) (refused past (session_of past x)) (session_of past x))
-owed scripts (Lock x table mode ∷ past) = owed scripts past
-owed scripts past = None
+abbrev pub owed : Terms → Past → Option Entry
+owed terms (Cancel s ∷ past) = Some (Refuse s (causes.Cancelled (length past)))
+owed terms (Refuse s cause ∷ past) = Some (abort_or_end (xact_of past s) s)
+owed terms (Done s reply ∷ past) = if_last (in_hand terms (Done s reply ∷ past) s) (commit_or_end (implicit_of (Done s reply ∷ past) s) s)
+owed terms (Commit x ∷ past) = Some (done_or_end (in_hand terms past (session_of past x)) (session_of past x))
+owed terms (Abort x ∷ past) = Some (after_abort (hand past (session_of past x)) (refused past (session_of past x)) (session_of past x))
+owed terms (Lock x table mode ∷ past) = owed terms past
+owed terms past = None
 
 -- the entry is the one that is owed, where one is
 abbrev pub Follows : Option Entry → Entry → Type 0

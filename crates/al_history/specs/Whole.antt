@@ -6,7 +6,7 @@ use Rattle.al_history.specs.declared.spec.Block.{Block}
 use Rattle.al_history.specs.declared.spec.Part.{Part}
 use Rattle.al_history.specs.declared.spec.Part.TheVariants as parts
 use Rattle.al_history.specs.declared.spec.Spec.{Spec}
-use Rattle.al_history.specs.declared.statement.Scripts.{Scripts}
+use Rattle.al_history.specs.declared.statement.Terms.{Terms}
 use Rattle.al_history.specs.declared.run.Setup.{Setup}
 use Rattle.al_history.specs.declared.run.Setup.TheVariants as setups
 use Rattle.al_history.specs.declared.run.Run.{Run}
@@ -160,51 +160,51 @@ if_in_step (Some block) turn = turn
 
 -- a block is given, and a step cancelled, where no session can go on; what is no part of a statement's tail, and no lock of a
 -- request that waits, is of the least that can
-abbrev pub InTurn : Scripts → Past → Entry → Type 0
-InTurn scripts past (Give s block) = IsIdle past
-InTurn scripts past (Cancel s) = IsIdle past
-InTurn scripts past (Close s) = Unit {0}
-InTurn scripts past (Start s level) = IsTurn (owed scripts past) past s
-InTurn scripts past (Done s reply) = IsTurn (owed scripts past) past s
-InTurn scripts past (Refuse s cause) = IsTurn (owed scripts past) past s
-InTurn scripts past (End s) = IsTurn (owed scripts past) past s
-InTurn scripts past (Wait x want) = IsTurn (owed scripts past) past (session_of past x)
-InTurn scripts past (Lock x table mode) = Unless (is_grant past (Lock x table mode)) (IsTurn (owed scripts past) past (session_of past x))
-InTurn scripts past (Look x) = IsTurn (owed scripts past) past (session_of past x)
-InTurn scripts past (Make x table name shape) = IsTurn (owed scripts past) past (session_of past x)
-InTurn scripts past (Add x table row) = IsTurn (owed scripts past) past (session_of past x)
-InTurn scripts past (Read x names rows) = IsTurn (owed scripts past) past (session_of past x)
-InTurn scripts past (Alter x table statement rewritten) = IsTurn (owed scripts past) past (session_of past x)
-InTurn scripts past (Commit x) = IsTurn (owed scripts past) past (session_of past x)
-InTurn scripts past (Abort x) = if_in_step (hand past (session_of past x)) (IsTurn (owed scripts past) past (session_of past x))
+abbrev pub InTurn : Terms → Past → Entry → Type 0
+InTurn terms past (Give s block) = IsIdle past
+InTurn terms past (Cancel s) = IsIdle past
+InTurn terms past (Close s) = Unit {0}
+InTurn terms past (Start s level) = IsTurn (owed terms past) past s
+InTurn terms past (Done s reply) = IsTurn (owed terms past) past s
+InTurn terms past (Refuse s cause) = IsTurn (owed terms past) past s
+InTurn terms past (End s) = IsTurn (owed terms past) past s
+InTurn terms past (Wait x want) = IsTurn (owed terms past) past (session_of past x)
+InTurn terms past (Lock x table mode) = Unless (is_grant past (Lock x table mode)) (IsTurn (owed terms past) past (session_of past x))
+InTurn terms past (Look x) = IsTurn (owed terms past) past (session_of past x)
+InTurn terms past (Make x table name shape) = IsTurn (owed terms past) past (session_of past x)
+InTurn terms past (Add x table row) = IsTurn (owed terms past) past (session_of past x)
+InTurn terms past (Read x names rows) = IsTurn (owed terms past) past (session_of past x)
+InTurn terms past (Alter x table statement rewritten) = IsTurn (owed terms past) past (session_of past x)
+InTurn terms past (Commit x) = IsTurn (owed terms past) past (session_of past x)
+InTurn terms past (Abort x) = if_in_step (hand past (session_of past x)) (IsTurn (owed terms past) past (session_of past x))
 
-abbrev pub Driven : Scripts → Past → Type 0
-Driven scripts [] = Unit {0}
-Driven scripts (e ∷ past) = InTurn scripts past e × Driven scripts past
+abbrev pub Driven : Terms → Past → Type 0
+Driven terms [] = Unit {0}
+Driven terms (e ∷ past) = InTurn terms past e × Driven terms past
 
 -- Each entry of the driver was due, each entry came in its turn, and the driver has nothing left to do: every session is closed.
 -- So each statement that was given is done or refused once, or stands after a refusal in its step.
-pub record IsWhole (spec : Spec) (scripts : Scripts) (steps : List ℕ) (past : Past) : Type 0 where
+pub record IsWhole (spec : Spec) (terms : Terms) (steps : List ℕ) (past : Past) : Type 0 where
   pub as_due : AsDue spec steps past
-  pub in_turn : Driven scripts past
+  pub in_turn : Driven terms past
   pub all_done : due spec steps past ≡ None
   pub all_closed : (s : ℕ) → s ≤ length spec.sessions → closed past s ≡ true
 
 -- the run of the permutation of this number: its journal is legal and whole, each valid constraint holds throughout, and
 -- the outcome of its setup part is what its journal says
-pub record IsRun (spec : Spec) (scripts : Scripts) (number : ℕ) (steps : List ℕ) (run : Run) : Type 0 where
+pub record IsRun (spec : Spec) (terms : Terms) (number : ℕ) (steps : List ℕ) (run : Run) : Type 0 where
   pub permutation : run.permutation ≡ number
-  pub legal : IsLegal scripts run.history.entries
-  pub whole : IsWhole spec scripts steps (past_of run.history)
-  pub holding : HoldAlways scripts (past_of run.history)
+  pub legal : IsLegal terms run.history.entries
+  pub whole : IsWhole spec terms steps (past_of run.history)
+  pub holding : HoldAlways terms (past_of run.history)
   pub setup : run.setup ≡ setup_by (failed_setup spec (past_of run.history))
 
 -- one run for each permutation, in order; they count from this number
-abbrev pub AreRunsFrom : Spec → Scripts → ℕ → List (List ℕ) → List Run → Type 0
-AreRunsFrom spec scripts number [] [] = Unit {0}
-AreRunsFrom spec scripts number (steps ∷ permutations) (run ∷ runs) = IsRun spec scripts number steps run × AreRunsFrom spec scripts (number + 1) permutations runs
-AreRunsFrom spec scripts number permutations runs = ⊥
+abbrev pub AreRunsFrom : Spec → Terms → ℕ → List (List ℕ) → List Run → Type 0
+AreRunsFrom spec terms number [] [] = Unit {0}
+AreRunsFrom spec terms number (steps ∷ permutations) (run ∷ runs) = IsRun spec terms number steps run × AreRunsFrom spec terms (number + 1) permutations runs
+AreRunsFrom spec terms number permutations runs = ⊥
 
 -- the runs of a spec, whose permutations count from 1
-abbrev pub AreRuns : Spec → Scripts → List Run → Type 0
-AreRuns spec scripts runs = AreRunsFrom spec scripts 1 spec.permutations runs
+abbrev pub AreRuns : Spec → Terms → List Run → Type 0
+AreRuns spec terms runs = AreRunsFrom spec terms 1 spec.permutations runs

@@ -36,6 +36,13 @@ pub enum Reply {
     },
 }
 
+/// What a run has a limit of.
+#[derive(Clone, Copy, Debug, PartialEq, Eq)]
+pub enum RunLimit {
+    /// The weight of its journal.
+    Journal,
+}
+
 /// Why a statement was refused. The name is that of the thing that is missing or in the way.
 #[derive(Debug, Drop)]
 pub enum Cause {
@@ -65,6 +72,13 @@ pub enum Cause {
     BlockFailed {
         /// The place of the Refuse that failed it.
         refuse: u32,
+    },
+    /// 54000: a limit of the run would be passed.
+    Limit {
+        /// What there would be too much of.
+        what: RunLimit,
+        /// How much there would be.
+        count: u64,
     },
     /// 57014: the step was cancelled.
     Cancelled {

@@ -10,11 +10,11 @@ mod statement;
 
 pub use al_modes::{Level, Mode};
 use al_values::{IdList, ListOf};
-pub use entry::{Cause, Entry, NumberedRow, Reply, Rewritten, Tag, Want};
+pub use entry::{Cause, Entry, NumberedRow, Reply, Rewritten, RunLimit, Tag, Want};
 pub use history::History;
 pub use run::{Run, Setup};
 pub use spec::{Block, Part, Spec, SpecFault};
-pub use statement::{Column, ScriptBlock, Scripts, Statement};
+pub use statement::{Column, ScriptBlock, Scripts, Statement, Terms};
 
 /// The columns of a table, in order.
 pub type Shape = ListOf<Column>;

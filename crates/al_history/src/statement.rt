@@ -74,3 +74,12 @@ pub struct Scripts {
     /// The blocks.
     pub blocks: ScriptList,
 }
+
+/// What the sessions of a run are held to: the blocks that may be given to them, and the most that the journal may weigh.
+#[derive(Debug, Drop)]
+pub struct Terms {
+    /// The blocks.
+    pub scripts: Scripts,
+    /// The most that the entries of the journal may weigh together.
+    pub weight: u32,
+}
