@@ -12,16 +12,17 @@ use Rattle.al_history.specs.declared.entry.Reply.TheVariants as replies
 use Rattle.al_history.specs.declared.entry.Tag.TheVariants as tags
 use Rattle.al_history.specs.declared.statement.Column.{Column}
 use Rattle.al_history.specs.declared.statement.Statement.TheVariants as statements
-use Rattle.al_history.specs.declared.statement.Scripts.{Scripts}
+use Rattle.al_history.specs.declared.statement.Terms.{Terms}
 use Rattle.al_history.specs.Past.{past_of}
-use Rattle.al_history.specs.Cause.{count_cause, alter_cause, refusal, cause_at}
+use Rattle.al_history.specs.Cause.{count_cause, alter_cause, refusal, added_weight, answered_weight, first_of, cause_at}
+use Rattle.al_history.specs.Weight.{row_weight, read_weight}
+use Rattle.al_history.proofs.Clear.{first_clear}
 use Rattle.al_history.specs.Change.{filled, alteration, Passes}
 use Rattle.al_history.specs.Database.{Table, Database, named, has_column}
 use Rattle.al_history.specs.Hand.{hand, session_of, statement_of}
 use Rattle.al_history.specs.Query.{column_names, answer}
 use Rattle.al_history.specs.Store.{shown_columns, shown_table, shown, spread}
 use Rattle.al_history.specs.View.{latest}
-use Rattle.al_history.specs.Waits.{can_go_on}
 use Rattle.al_history.specs.Legal.{MayCome}
 use Rattle.al_history.proofs.Comes.{comes_add, comes_read, comes_alter}
 use Rattle.al_history.proofs.Doings.{Doing}
@@ -30,11 +31,13 @@ use Rattle.al_engine.specs.declared.sessions.Session.{Session}
 use Rattle.al_engine.specs.declared.stored.StoredColumn.{StoredColumn}
 use Rattle.al_engine.specs.declared.stored.StoredRow.{StoredRow}
 use Rattle.al_engine.specs.declared.stored.StoredTable.{StoredTable}
-use Rattle.al_engine.specs.Kept.{Parts, IsKept, used_by}
+use Rattle.al_engine.specs.Kept.{Parts, over_by, used_by}
+use Rattle.al_engine.proofs.AskLemmas.{over_uncut}
+use Rattle.al_engine.specs.Using.{Uses}
 use Rattle.al_engine.specs.Stored.{slot_of, kept_of, all_kept, seen_by, of_columns, with_stored_row, with_stored_column}
 use Rattle.al_engine.proofs.StatementLemmas.{at_work, acted_goes, can_be_done, StaysBut, amid_after, clear_after}
 use Rattle.al_engine.proofs.StoredLemmas.{counts_by_columns, alters_by_columns, store_after_insert, store_after_alter}
-use Rattle.al_engine.proofs.UseLemmas.{Uses, HasActed, HasFailed, done_still, found_so, looked_works, looked_stage, acts_by, look_fails}
+use Rattle.al_engine.proofs.UseLemmas.{judged_after, HasActed, HasFailed, done_still, found_so, looked_works, looked_stage, acts_by, look_fails}
 
 count_uncut : (got : ℕ) (v : Table) (cause : Cause) → Some cause ≡ count_cause got (Some v) → used_by cause ≡ 0
 count_uncut got v cause is = by_test (nat_lt (length v.columns) got) is where
@@ -48,98 +51,107 @@ alter_uncut column v cause is = by_test (has_column v.columns column.name) is wh
   by_test true is = let one : cause ≡ causes.TwiceColumn column.name = cc in rw one refl
   by_test false is = absurd cc
 
--- ---- what they use
+first_uncut : (first second : Option Cause) (cause : Cause) → ((c : Cause) → Some c ≡ first → used_by c ≡ 0) → ((c : Cause) → Some c ≡ second → used_by c ≡ 0) → Some cause ≡ first_of first second → used_by cause ≡ 0
+first_uncut None second cause one two is = two cause is
+first_uncut (Some c) second cause one two is = one cause is
 
-module _ (scripts : Scripts) (p : Parts) (s : ℕ) (t : Session) (x : ℕ) (name : List ℕ) (kept : IsKept scripts p) (seat : slice_get p.sessions s ≡ Some t) (goes : can_go_on (past_of p.journal) s ≡ true) (in_xact : t.xact ≡ Some x) where
-  pub insert_uses : (written : List Value) → statement_of scripts t.hand 0 ≡ Some (statements.Insert name written) → Uses scripts p s t x (statements.Insert name written) name RowExclusive
-  insert_uses written is = record { kept = kept; seat = seat; goes = goes; in_xact = in_xact; statement_is = is; other = λ h. h; placed = refl; needs = λ db. refl; names = λ db. refl }
-
-  pub select_uses : statement_of scripts t.hand 0 ≡ Some (statements.Select name) → Uses scripts p s t x (statements.Select name) name AccessShare
-  select_uses is = record { kept = kept; seat = seat; goes = goes; in_xact = in_xact; statement_is = is; other = λ h. h; placed = refl; needs = λ db. refl; names = λ db. refl }
-
-  pub alter_uses : (column : Column) → statement_of scripts t.hand 0 ≡ Some (statements.AddColumn name column) → Uses scripts p s t x (statements.AddColumn name column) name AccessExclusive
-  alter_uses column is = record { kept = kept; seat = seat; goes = goes; in_xact = in_xact; statement_is = is; other = λ h. h; placed = refl; needs = λ db. refl; names = λ db. refl }
+-- the first of two causes that were worked out
+pub first_both : (told first second a b : Option Cause) → told ≡ first_of a b → a ≡ first → b ≡ second → told ≡ first_of first second
+first_both told first second a b is one two = rw (one, two) at is
 
 -- ---- how they act
 
-module _ (scripts : Scripts) (p : Parts) (s : ℕ) (t : Session) (x : ℕ) (name : List ℕ) (at : ℕ) (table : StoredTable) (found : option_map (λ (v : StoredTable). shown_table (seen_by (Some x) p.committed) (kept_of v)) (slice_get p.tables at) ≡ named (shown (seen_by (Some x) p.committed) (all_kept p.tables)) name) (there : slice_get p.tables at ≡ Some table) where
+module _ (terms : Terms) (p : Parts) (s : ℕ) (t : Session) (x : ℕ) (name : List ℕ) (at : ℕ) (table : StoredTable) (found : option_map (λ (v : StoredTable). shown_table (seen_by (Some x) p.committed) (kept_of v)) (slice_get p.tables at) ≡ named (shown (seen_by (Some x) p.committed) (all_kept p.tables)) name) (there : slice_get p.tables at ≡ Some table) where
   -- ---- INSERT
 
-  module _ (written : List Value) (u : Uses scripts p s t x (statements.Insert name written) name RowExclusive) (locked : holds p.locks.locks s table.number RowExclusive ≡ true) (columns : List Column) (columns_are : columns ≡ shown_columns (seen_by (Some x) p.committed) (kept_of table).slots) where
-    insert_found : named (latest scripts (Look x ∷ past_of p.journal) x) name ≡ Some (shown_table (seen_by (Some x) p.committed) (kept_of table))
-    insert_found = found_so scripts p s t x (statements.Insert name written) name RowExclusive u at table found there
+  module _ (written : List Value) (u : Uses terms p s t x (statements.Insert name written) name RowExclusive) (locked : holds p.locks.locks s table.number RowExclusive ≡ true) (looks : over_by terms.weight p.weight 1 ≡ None) (columns : List Column) (columns_are : columns ≡ shown_columns (seen_by (Some x) p.committed) (kept_of table).slots) where
+    insert_found : named (latest terms (Look x ∷ past_of p.journal) x) name ≡ Some (shown_table (seen_by (Some x) p.committed) (kept_of table))
+    insert_found = found_so terms p s t x (statements.Insert name written) name RowExclusive u at table found there
 
-    insert_cause : cause_at scripts (Look x ∷ past_of p.journal) x (statements.Insert name written) [] (Some (past_of p.journal)) ≡ count_cause (length written) (Some (of_columns columns))
-    insert_cause = ap (λ (o : Option Table). count_cause (length written) o) insert_found ∙ sym (counts_by_columns columns (length written) (shown_table (seen_by (Some x) p.committed) (kept_of table)) columns_are)
+    insert_cause : cause_at terms (Look x ∷ past_of p.journal) x (statements.Insert name written) [] (Some (past_of p.journal)) ≡ first_of (count_cause (length written) (Some (of_columns columns))) (over_by terms.weight (p.weight + 1) (1 + row_weight (filled columns written)))
+    insert_cause = judged_after terms p s t x (statements.Insert name written) name RowExclusive u at table found there locked looks (count_cause (length written) (Some (of_columns columns))) (1 + row_weight (filled columns written))
+        (ap (λ (o : Option Table). count_cause (length written) o) insert_found ∙ sym (counts_by_columns columns (length written) (shown_table (seen_by (Some x) p.committed) (kept_of table)) columns_are))
+        (ap (λ (o : Option Table). option_map (added_weight written) o) insert_found ∙ ap (λ (cs : List Column). Some (1 + row_weight (filled cs written))) (sym columns_are))
 
-    -- it has too many values
-    pub insert_fails : (cause : Cause) (q : Parts) → Some cause ≡ count_cause (length written) (Some (of_columns columns)) → StaysBut p q → q.tables ≡ p.tables → past_of q.journal ≡ Look x ∷ past_of p.journal → HasFailed scripts p q s t cause
-    insert_fails cause q is stays tables past_is = look_fails scripts p s t x (statements.Insert name written) name RowExclusive u at table found there locked cause q (count_uncut (length written) (of_columns columns) cause is) (insert_cause ∙ sym is) stays tables past_is
+    -- it has too many values, or too much to add
+    pub insert_fails : (cause : Cause) (q : Parts) → Some cause ≡ first_of (count_cause (length written) (Some (of_columns columns))) (over_by terms.weight (p.weight + 1) (1 + row_weight (filled columns written))) → StaysBut p q → q.tables ≡ p.tables → past_of q.journal ≡ Look x ∷ past_of p.journal → HasFailed terms p q s t cause
+    insert_fails cause q is stays tables past_is = look_fails terms p s t x (statements.Insert name written) name RowExclusive u at table found there locked looks cause q (first_uncut _ _ cause (λ c h. count_uncut (length written) (of_columns columns) c h) (λ c h. over_uncut _ _ _ c h) is) (insert_cause ∙ sym is) stays tables past_is
 
     -- it adds its row
-    module _ (fits : count_cause (length written) (Some (of_columns columns)) ≡ None) (row : List Value) (row_is : row ≡ filled columns written) where
-      add_may : MayCome scripts (Look x ∷ past_of p.journal) (Add x table.number row)
+    module _ (fits : first_of (count_cause (length written) (Some (of_columns columns))) (over_by terms.weight (p.weight + 1) (1 + row_weight (filled columns written))) ≡ None) (row : List Value) (row_is : row ≡ filled columns written) where
+      add_may : MayCome terms (Look x ∷ past_of p.journal) (Add x table.number row)
       add_may =
-          let w = looked_works scripts p s t x (statements.Insert name written) name RowExclusive u at table found there locked in
-          comes_add scripts (Look x ∷ past_of p.journal) s (at_work (record t { wants = None }) x (Some (past_of p.journal))) w.legal w.doing_is w.settled x w.by table.number row
-          (acts_by scripts p s t x (statements.Insert name written) name RowExclusive u at table found there locked (insert_cause ∙ fits))
+          let w = looked_works terms p s t x (statements.Insert name written) name RowExclusive u at table found there locked looks in
+          comes_add terms (Look x ∷ past_of p.journal) s (at_work (record t { wants = None }) x (Some (past_of p.journal))) w.legal w.doing_is w.settled x w.by table.number row
+          (acts_by terms p s t x (statements.Insert name written) name RowExclusive u at table found there locked looks (insert_cause ∙ fits))
           (rw (w.statement_is, insert_found) (refl, row_is ∙ ap (λ (cs : List Column). filled cs written) columns_are)) refl
 
-      add_stage : Stage scripts s (past_of p.journal) (Add x table.number row ∷ Look x ∷ past_of p.journal) 1
+      add_stage : Stage terms s (past_of p.journal) (Add x table.number row ∷ Look x ∷ past_of p.journal) 1
       add_stage =
-          let w = looked_works scripts p s t x (statements.Insert name written) name RowExclusive u at table found there locked in
-          stage_on scripts s (past_of p.journal) (Look x ∷ past_of p.journal) 0 1 (Add x table.number row) (looked_stage scripts p s t x (statements.Insert name written) name RowExclusive u at table found there locked) (step_add x table.number row) w.by add_may w.settled refl
-          (acted_goes scripts (Look x ∷ past_of p.journal) s (record t { wants = None }) x (statements.Insert name written) (Some (past_of p.journal)) w (Add x table.number row) w.by (λ d. refl) w.settled add_may) refl
+          let w = looked_works terms p s t x (statements.Insert name written) name RowExclusive u at table found there locked looks in
+          stage_on terms s (past_of p.journal) (Look x ∷ past_of p.journal) 0 1 (Add x table.number row) (looked_stage terms p s t x (statements.Insert name written) name RowExclusive u at table found there locked looks) (step_add x table.number row) w.by add_may w.settled refl
+          (acted_goes terms (Look x ∷ past_of p.journal) s (record t { wants = None }) x (statements.Insert name written) (Some (past_of p.journal)) w (Add x table.number row) w.by (λ d. refl) w.settled add_may) refl
 
-      pub insert_acts : (r : StoredRow) (q : Parts) → r.number ≡ length (past_of p.journal) + 1 → r.maker ≡ x → r.values ≡ spread (seen_by (Some x) p.committed) (map slot_of table.columns) row → StaysBut p q → q.tables ≡ slice_set p.tables at (with_stored_row r table) → past_of q.journal ≡ Add x table.number row ∷ Look x ∷ past_of p.journal → HasActed scripts p q s t (replies.Tag tags.Insert 1) 1
+      pub insert_acts : (r : StoredRow) (q : Parts) → r.number ≡ length (past_of p.journal) + 1 → r.maker ≡ x → r.values ≡ spread (seen_by (Some x) p.committed) (map slot_of table.columns) row → StaysBut p q → q.tables ≡ slice_set p.tables at (with_stored_row r table) → past_of q.journal ≡ Add x table.number row ∷ Look x ∷ past_of p.journal → HasActed terms p q s t (replies.Tag tags.Insert 1) 1
       insert_acts r q number maker values stays tables past_is =
-          let w = looked_works scripts p s t x (statements.Insert name written) name RowExclusive u at table found there locked in
+          let w = looked_works terms p s t x (statements.Insert name written) name RowExclusive u at table found there locked looks in
           let place : r.number ≡ length (Look x ∷ past_of p.journal) = omega (arith, number) in
-          let stage : Stage scripts s (past_of p.journal) (past_of q.journal) 1 = rw past_is add_stage in
+          let stage : Stage terms s (past_of p.journal) (past_of q.journal) 1 = rw past_is add_stage in
           record {
-            amid = amid_after scripts p q s 1 u.kept stage stays (rw (tables, past_is) (store_after_insert scripts (Look x ∷ past_of p.journal) p.tables x p.committed at table r row w.legal u.kept.sound.stored u.kept.sound.tells there place maker values));
-            clear = clear_after scripts p q s 1 u.kept stage stays;
-            done = rw past_is (done_still scripts _ s t _ (can_be_done scripts (Look x ∷ past_of p.journal) s (record t { wants = None }) x (statements.Insert name written) (Some (past_of p.journal)) w (Add x table.number row) w.by (λ d. refl) (replies.Tag tags.Insert 1) refl refl));
+            amid = amid_after terms p q s 1 u.kept stage stays (rw (tables, past_is) (store_after_insert terms (Look x ∷ past_of p.journal) p.tables x p.committed at table r row w.legal u.kept.sound.stored u.kept.sound.tells there place maker values));
+            clear = clear_after terms p q s 1 u.kept stage stays;
+            done = rw past_is (done_still terms _ s t _ (can_be_done terms (Look x ∷ past_of p.journal) s (record t { wants = None }) x (statements.Insert name written) (Some (past_of p.journal)) w (Add x table.number row) w.by (λ d. refl) (replies.Tag tags.Insert 1) refl refl));
             stage = stage;
             more = rw past_is (omega arith);
           }
 
   -- ---- SELECT
 
-  module _ (u : Uses scripts p s t x (statements.Select name) name AccessShare) (locked : holds p.locks.locks s table.number AccessShare ≡ true) (names : List (List ℕ)) (rows : List (List Value)) (names_are : names ≡ column_names (shown_table (seen_by (Some x) p.committed) (kept_of table))) (rows_are : rows ≡ answer (shown_table (seen_by (Some x) p.committed) (kept_of table))) where
-    read_may : MayCome scripts (Look x ∷ past_of p.journal) (Read x names rows)
-    read_may =
-        let w = looked_works scripts p s t x (statements.Select name) name AccessShare u at table found there locked in
-        let is = found_so scripts p s t x (statements.Select name) name AccessShare u at table found there in
-        comes_read scripts (Look x ∷ past_of p.journal) s (at_work (record t { wants = None }) x (Some (past_of p.journal))) w.legal w.doing_is w.settled x w.by names rows
-        (acts_by scripts p s t x (statements.Select name) name AccessShare u at table found there locked refl)
+  module _ (u : Uses terms p s t x (statements.Select name) name AccessShare) (locked : holds p.locks.locks s table.number AccessShare ≡ true) (looks : over_by terms.weight p.weight 1 ≡ None) (names : List (List ℕ)) (rows : List (List Value)) (names_are : names ≡ column_names (shown_table (seen_by (Some x) p.committed) (kept_of table))) (rows_are : rows ≡ answer (shown_table (seen_by (Some x) p.committed) (kept_of table))) where
+    select_cause : cause_at terms (Look x ∷ past_of p.journal) x (statements.Select name) [] (Some (past_of p.journal)) ≡ over_by terms.weight (p.weight + 1) (read_weight names rows)
+    select_cause = judged_after terms p s t x (statements.Select name) name AccessShare u at table found there locked looks None (read_weight names rows) refl
+        (ap (λ (o : Option Table). option_map answered_weight o) (found_so terms p s t x (statements.Select name) name AccessShare u at table found there)
+        ∙ (ap (λ (ns : List (List ℕ)). Some (read_weight ns (answer (shown_table (seen_by (Some x) p.committed) (kept_of table))))) (sym names_are)
+        ∙ ap (λ (rs : List (List Value)). Some (read_weight names rs)) (sym rows_are)))
+
+    -- it has too much to read
+    pub select_fails : (cause : Cause) (q : Parts) → Some cause ≡ over_by terms.weight (p.weight + 1) (read_weight names rows) → StaysBut p q → q.tables ≡ p.tables → past_of q.journal ≡ Look x ∷ past_of p.journal → HasFailed terms p q s t cause
+    select_fails cause q is stays tables past_is = look_fails terms p s t x (statements.Select name) name AccessShare u at table found there locked looks cause q (over_uncut _ _ _ cause is) (select_cause ∙ sym is) stays tables past_is
+
+    read_may : over_by terms.weight (p.weight + 1) (read_weight names rows) ≡ None → MayCome terms (Look x ∷ past_of p.journal) (Read x names rows)
+    read_may fits =
+        let w = looked_works terms p s t x (statements.Select name) name AccessShare u at table found there locked looks in
+        let is = found_so terms p s t x (statements.Select name) name AccessShare u at table found there in
+        comes_read terms (Look x ∷ past_of p.journal) s (at_work (record t { wants = None }) x (Some (past_of p.journal))) w.legal w.doing_is w.settled x w.by names rows
+        (acts_by terms p s t x (statements.Select name) name AccessShare u at table found there locked looks (select_cause ∙ fits))
         (rw (w.statement_is, is) (names_are, rows_are)) refl
 
-    pub select_acts : (entry : ℕ) (q : Parts) → entry ≡ length (Look x ∷ past_of p.journal) → StaysBut p q → q.tables ≡ p.tables → past_of q.journal ≡ Read x names rows ∷ Look x ∷ past_of p.journal → HasActed scripts p q s t (replies.Rows entry) 0
-    select_acts entry q place stays tables past_is =
-        let w = looked_works scripts p s t x (statements.Select name) name AccessShare u at table found there locked in
-        let stage : Stage scripts s (past_of p.journal) (past_of q.journal) 0 = rw past_is (stage_on scripts s (past_of p.journal) (Look x ∷ past_of p.journal) 0 0 (Read x names rows) (looked_stage scripts p s t x (statements.Select name) name AccessShare u at table found there locked) (step_read x names rows) w.by read_may w.settled refl
-        (acted_goes scripts (Look x ∷ past_of p.journal) s (record t { wants = None }) x (statements.Select name) (Some (past_of p.journal)) w (Read x names rows) w.by (λ d. refl) w.settled read_may) (omega arith)) in
+    pub select_acts : (entry : ℕ) (q : Parts) → over_by terms.weight (p.weight + 1) (read_weight names rows) ≡ None → entry ≡ length (Look x ∷ past_of p.journal) → StaysBut p q → q.tables ≡ p.tables → past_of q.journal ≡ Read x names rows ∷ Look x ∷ past_of p.journal → HasActed terms p q s t (replies.Rows entry) 0
+    select_acts entry q fits place stays tables past_is =
+        let w = looked_works terms p s t x (statements.Select name) name AccessShare u at table found there locked looks in
+        let stage : Stage terms s (past_of p.journal) (past_of q.journal) 0 = rw past_is (stage_on terms s (past_of p.journal) (Look x ∷ past_of p.journal) 0 0 (Read x names rows) (looked_stage terms p s t x (statements.Select name) name AccessShare u at table found there locked looks) (step_read x names rows) w.by (read_may fits) w.settled refl
+        (acted_goes terms (Look x ∷ past_of p.journal) s (record t { wants = None }) x (statements.Select name) (Some (past_of p.journal)) w (Read x names rows) w.by (λ d. refl) w.settled (read_may fits)) (omega arith)) in
         record {
-          amid = amid_after scripts p q s 0 u.kept stage stays (rw (tables, past_is) u.kept.sound.stored);
-          clear = clear_after scripts p q s 0 u.kept stage stays;
-          done = rw past_is (done_still scripts _ s t _ (can_be_done scripts (Look x ∷ past_of p.journal) s (record t { wants = None }) x (statements.Select name) (Some (past_of p.journal)) w (Read x names rows) w.by (λ d. refl) (replies.Rows entry) (ap replies.Rows place) refl));
+          amid = amid_after terms p q s 0 u.kept stage stays (rw (tables, past_is) u.kept.sound.stored);
+          clear = clear_after terms p q s 0 u.kept stage stays;
+          done = rw past_is (done_still terms _ s t _ (can_be_done terms (Look x ∷ past_of p.journal) s (record t { wants = None }) x (statements.Select name) (Some (past_of p.journal)) w (Read x names rows) w.by (λ d. refl) (replies.Rows entry) (ap replies.Rows place) refl));
           stage = stage;
           more = rw past_is (omega arith);
         }
 
   -- ---- ALTER TABLE
 
-  module _ (column : Column) (u : Uses scripts p s t x (statements.AddColumn name column) name AccessExclusive) (locked : holds p.locks.locks s table.number AccessExclusive ≡ true) (columns : List Column) (columns_are : columns ≡ shown_columns (seen_by (Some x) p.committed) (kept_of table).slots) where
-    alter_found : named (latest scripts (Look x ∷ past_of p.journal) x) name ≡ Some (shown_table (seen_by (Some x) p.committed) (kept_of table))
-    alter_found = found_so scripts p s t x (statements.AddColumn name column) name AccessExclusive u at table found there
+  module _ (column : Column) (u : Uses terms p s t x (statements.AddColumn name column) name AccessExclusive) (locked : holds p.locks.locks s table.number AccessExclusive ≡ true) (looks : over_by terms.weight p.weight 1 ≡ None) (columns : List Column) (columns_are : columns ≡ shown_columns (seen_by (Some x) p.committed) (kept_of table).slots) where
+    alter_found : named (latest terms (Look x ∷ past_of p.journal) x) name ≡ Some (shown_table (seen_by (Some x) p.committed) (kept_of table))
+    alter_found = found_so terms p s t x (statements.AddColumn name column) name AccessExclusive u at table found there
 
-    alter_refused : cause_at scripts (Look x ∷ past_of p.journal) x (statements.AddColumn name column) [] (Some (past_of p.journal)) ≡ alter_cause column (Some (of_columns columns))
-    alter_refused = ap (λ (o : Option Table). alter_cause column o) alter_found ∙ sym (alters_by_columns columns column (shown_table (seen_by (Some x) p.committed) (kept_of table)) columns_are)
+    alter_refused : cause_at terms (Look x ∷ past_of p.journal) x (statements.AddColumn name column) [] (Some (past_of p.journal)) ≡ first_of (alter_cause column (Some (of_columns columns))) (over_by terms.weight (p.weight + 1) 1)
+    alter_refused = judged_after terms p s t x (statements.AddColumn name column) name AccessExclusive u at table found there locked looks (alter_cause column (Some (of_columns columns))) 1
+        (ap (λ (o : Option Table). alter_cause column o) alter_found ∙ sym (alters_by_columns columns column (shown_table (seen_by (Some x) p.committed) (kept_of table)) columns_are)) refl
 
-    -- it has the column already
-    pub alter_fails : (cause : Cause) (q : Parts) → Some cause ≡ alter_cause column (Some (of_columns columns)) → StaysBut p q → q.tables ≡ p.tables → past_of q.journal ≡ Look x ∷ past_of p.journal → HasFailed scripts p q s t cause
-    alter_fails cause q is stays tables past_is = look_fails scripts p s t x (statements.AddColumn name column) name AccessExclusive u at table found there locked cause q (alter_uncut column (of_columns columns) cause is) (alter_refused ∙ sym is) stays tables past_is
+    -- it has the column already, or the journal no place
+    pub alter_fails : (cause : Cause) (q : Parts) → Some cause ≡ first_of (alter_cause column (Some (of_columns columns))) (over_by terms.weight (p.weight + 1) 1) → StaysBut p q → q.tables ≡ p.tables → past_of q.journal ≡ Look x ∷ past_of p.journal → HasFailed terms p q s t cause
+    alter_fails cause q is stays tables past_is = look_fails terms p s t x (statements.AddColumn name column) name AccessExclusive u at table found there locked looks cause q (first_uncut _ _ cause (λ c h. alter_uncut column (of_columns columns) c h) (λ c h. over_uncut _ _ _ c h) is) (alter_refused ∙ sym is) stays tables past_is
 
     passes : (v : Table) (db : Database) → alter_cause column (Some v) ≡ None → Passes (alteration column v) db
     passes v db none = by_test (has_column v.columns column.name) none where
@@ -148,25 +160,28 @@ module _ (scripts : Scripts) (p : Parts) (s : ℕ) (t : Session) (x : ℕ) (name
       by_test false none = λ (c : Constraint) among v there same. absurd c.demand
 
     -- it adds the column
-    module _ (fits : alter_cause column (Some (of_columns columns)) ≡ None) where
-      alter_may : MayCome scripts (Look x ∷ past_of p.journal) (Alter x table.number 0 [])
-      alter_may =
-          let w = looked_works scripts p s t x (statements.AddColumn name column) name AccessExclusive u at table found there locked in
-          comes_alter scripts (Look x ∷ past_of p.journal) s (at_work (record t { wants = None }) x (Some (past_of p.journal))) w.legal w.doing_is w.settled x w.by table.number
-          (acts_by scripts p s t x (statements.AddColumn name column) name AccessExclusive u at table found there locked (alter_refused ∙ fits))
-          (rw (w.statement_is, alter_found) (refl, passes (shown_table (seen_by (Some x) p.committed) (kept_of table)) _ (sym (alters_by_columns columns column (shown_table (seen_by (Some x) p.committed) (kept_of table)) columns_are) ∙ fits))) refl
+    module _ (fits : first_of (alter_cause column (Some (of_columns columns))) (over_by terms.weight (p.weight + 1) 1) ≡ None) where
+      shape_fits : alter_cause column (Some (of_columns columns)) ≡ None
+      shape_fits = first_clear (alter_cause column (Some (of_columns columns))) _ fits
 
-      pub alter_acts : (c : StoredColumn) (q : Parts) → c.maker ≡ x → c.column ≡ column → StaysBut p q → q.tables ≡ slice_set p.tables at (with_stored_column c table) → past_of q.journal ≡ Alter x table.number 0 [] ∷ Look x ∷ past_of p.journal → HasActed scripts p q s t (replies.Tag tags.AlterTable 0) 0
+      alter_may : MayCome terms (Look x ∷ past_of p.journal) (Alter x table.number 0 [])
+      alter_may =
+          let w = looked_works terms p s t x (statements.AddColumn name column) name AccessExclusive u at table found there locked looks in
+          comes_alter terms (Look x ∷ past_of p.journal) s (at_work (record t { wants = None }) x (Some (past_of p.journal))) w.legal w.doing_is w.settled x w.by table.number
+          (acts_by terms p s t x (statements.AddColumn name column) name AccessExclusive u at table found there locked looks (alter_refused ∙ fits))
+          (rw (w.statement_is, alter_found) (refl, passes (shown_table (seen_by (Some x) p.committed) (kept_of table)) _ (sym (alters_by_columns columns column (shown_table (seen_by (Some x) p.committed) (kept_of table)) columns_are) ∙ shape_fits))) refl
+
+      pub alter_acts : (c : StoredColumn) (q : Parts) → c.maker ≡ x → c.column ≡ column → StaysBut p q → q.tables ≡ slice_set p.tables at (with_stored_column c table) → past_of q.journal ≡ Alter x table.number 0 [] ∷ Look x ∷ past_of p.journal → HasActed terms p q s t (replies.Tag tags.AlterTable 0) 0
       alter_acts c q maker column_is stays tables past_is =
-          let w = looked_works scripts p s t x (statements.AddColumn name column) name AccessExclusive u at table found there locked in
-          let stage : Stage scripts s (past_of p.journal) (past_of q.journal) 0 = rw past_is (stage_on scripts s (past_of p.journal) (Look x ∷ past_of p.journal) 0 0 (Alter x table.number 0 []) (looked_stage scripts p s t x (statements.AddColumn name column) name AccessExclusive u at table found there locked) (step_alter x table.number 0 []) w.by alter_may w.settled refl
-          (acted_goes scripts (Look x ∷ past_of p.journal) s (record t { wants = None }) x (statements.AddColumn name column) (Some (past_of p.journal)) w (Alter x table.number 0 []) w.by (λ d. refl) w.settled alter_may) (omega arith)) in
+          let w = looked_works terms p s t x (statements.AddColumn name column) name AccessExclusive u at table found there locked looks in
+          let stage : Stage terms s (past_of p.journal) (past_of q.journal) 0 = rw past_is (stage_on terms s (past_of p.journal) (Look x ∷ past_of p.journal) 0 0 (Alter x table.number 0 []) (looked_stage terms p s t x (statements.AddColumn name column) name AccessExclusive u at table found there locked looks) (step_alter x table.number 0 []) w.by alter_may w.settled refl
+          (acted_goes terms (Look x ∷ past_of p.journal) s (record t { wants = None }) x (statements.AddColumn name column) (Some (past_of p.journal)) w (Alter x table.number 0 []) w.by (λ d. refl) w.settled alter_may) (omega arith)) in
           let hand_so : hand (Look x ∷ past_of p.journal) s ≡ t.hand = ap (λ (d : Doing). d.hand) w.doing_is in
-          let in_hand_so : statement_of scripts (hand (Look x ∷ past_of p.journal) (session_of (Look x ∷ past_of p.journal) x)) 0 ≡ Some (statements.AddColumn name column) = rw (w.by.session, hand_so) w.statement_is in
+          let in_hand_so : statement_of terms (hand (Look x ∷ past_of p.journal) (session_of (Look x ∷ past_of p.journal) x)) 0 ≡ Some (statements.AddColumn name column) = rw (w.by.session, hand_so) w.statement_is in
           record {
-            amid = amid_after scripts p q s 0 u.kept stage stays (rw (tables, past_is) (store_after_alter scripts (Look x ∷ past_of p.journal) p.tables x at table c 0 [] name column w.legal u.kept.sound.stored there in_hand_so maker column_is));
-            clear = clear_after scripts p q s 0 u.kept stage stays;
-            done = rw past_is (done_still scripts _ s t _ (can_be_done scripts (Look x ∷ past_of p.journal) s (record t { wants = None }) x (statements.AddColumn name column) (Some (past_of p.journal)) w (Alter x table.number 0 []) w.by (λ d. refl) (replies.Tag tags.AlterTable 0) refl refl));
+            amid = amid_after terms p q s 0 u.kept stage stays (rw (tables, past_is) (store_after_alter terms (Look x ∷ past_of p.journal) p.tables x at table c 0 [] name column w.legal u.kept.sound.stored there in_hand_so maker column_is));
+            clear = clear_after terms p q s 0 u.kept stage stays;
+            done = rw past_is (done_still terms _ s t _ (can_be_done terms (Look x ∷ past_of p.journal) s (record t { wants = None }) x (statements.AddColumn name column) (Some (past_of p.journal)) w (Alter x table.number 0 []) w.by (λ d. refl) (replies.Tag tags.AlterTable 0) refl refl));
             stage = stage;
             more = rw past_is (omega arith);
           }

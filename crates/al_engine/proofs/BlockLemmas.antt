@@ -9,7 +9,7 @@ use Rattle.al_history.specs.declared.entry.Reply.TheVariants as replies
 use Rattle.al_history.specs.declared.entry.Tag.TheVariants as tags
 use Rattle.al_history.specs.declared.statement.Statement.{Statement}
 use Rattle.al_history.specs.declared.statement.Statement.TheVariants as statements
-use Rattle.al_history.specs.declared.statement.Scripts.{Scripts}
+use Rattle.al_history.specs.declared.statement.Terms.{Terms}
 use Rattle.al_history.specs.Past.{Past, past_of}
 use Rattle.al_history.specs.Hand.{BlockState, NoBlock, OpenBlock, FailedBlock, hand, in_hand, statement_of, xact_of, implicit_of, if_no_block, block_state, block_after, opened}
 use Rattle.al_history.specs.Locks.{is_settled}
@@ -46,24 +46,24 @@ use Rattle.al_engine.proofs.Woken.{calmed, woken_get}
 
 -- ---- a statement is done, and with it its step
 
-module _ (scripts : Scripts) (m : Parts) (s used : ℕ) (t seat : Session) (old : Past) (xact : Option ℕ) (reply : Reply) (over : IsOver scripts m s used t seat old xact reply) where
+module _ (terms : Terms) (m : Parts) (s used : ℕ) (t seat : Session) (old : Past) (xact : Option ℕ) (reply : Reply) (over : IsOver terms m s used t seat old xact reply) where
   abbrev mid : Past
   mid = past_of m.journal
 
-  legal_done : Legal scripts (Done s reply ∷ mid)
+  legal_done : Legal terms (Done s reply ∷ mid)
   legal_done = (over.comes, over.amid.sound.legal)
 
-  none_in_hand : in_hand scripts (Done s reply ∷ mid) s ≡ None
+  none_in_hand : in_hand terms (Done s reply ∷ mid) s ≡ None
   none_in_hand = rw (over.is_last.busy, if_same s, over.is_last.none_done) over.is_last.last
 
   none_implicit : implicit_of (Done s reply ∷ mid) s ≡ None
   none_implicit = rw (if_same s, over.is_last.block_is, over.is_last.xact_is) over.is_last.none_left
 
-  owes_end : owed scripts (Done s reply ∷ mid) ≡ Some (End s)
+  owes_end : owed terms (Done s reply ∷ mid) ≡ Some (End s)
   owes_end = rw (none_in_hand, none_implicit) refl
 
-  end_comes : MayCome scripts (Done s reply ∷ mid) (End s)
-  end_comes = comes scripts (Done s reply ∷ mid) legal_done over.settled (End s) (record { in_step = rw over.is_last.busy refl; over = inl none_in_hand; none_implicit = none_implicit }) (rw owes_end refl)
+  end_comes : MayCome terms (Done s reply ∷ mid) (End s)
+  end_comes = comes terms (Done s reply ∷ mid) legal_done over.settled (End s) (record { in_step = rw over.is_last.busy refl; over = inl none_in_hand; none_implicit = none_implicit }) (rw owes_end refl)
 
   -- there is room for both
   pub over_room : 1 < m.journal.room
@@ -71,10 +71,10 @@ module _ (scripts : Scripts) (m : Parts) (s used : ℕ) (t seat : Session) (old 
       let reserved : light m.sessions + length m.locks.locks.waiting ≤ m.journal.room + used = over.amid.sound.reserved in
       omega (arith, reserved, light_at m.sessions s t over.there, over.fits seat.block)
 
-  pub over_went : (new : Past) → new ≡ End s ∷ Done s reply ∷ mid → Went scripts s old new false (driver old) (IsLeast old s)
-  over_went new noted = rw noted (tail_ends scripts s old (Done s reply ∷ mid) false (driver old) (IsLeast old s) over.tail end_comes (rw owes_end tt))
+  pub over_went : (new : Past) → new ≡ End s ∷ Done s reply ∷ mid → Went terms s old new false (driver old) (IsLeast old s)
+  over_went new noted = rw noted (tail_ends terms s old (Done s reply ∷ mid) false (driver old) (IsLeast old s) over.tail end_comes (rw owes_end tt))
 
-  own_stops : (block : Block) → state_of block ≡ block_after reply (state_of seat.block) → IsMirror scripts (doing (End s ∷ Done s reply ∷ mid) s) (stopped seat xact block)
+  own_stops : (block : Block) → state_of block ≡ block_after reply (state_of seat.block) → IsMirror terms (doing (End s ∷ Done s reply ∷ mid) s) (stopped seat xact block)
   own_stops block is = record {
     outline = record {
       hand_is = rw (if_same s) refl;
@@ -86,11 +86,11 @@ module _ (scripts : Scripts) (m : Parts) (s used : ℕ) (t seat : Session) (old 
     underway = λ b busy. absurd cc;
   }
 
-  module _ (m1 q : Parts) (block : Block) (is : state_of block ≡ block_after reply (state_of seat.block)) (noted : past_of m1.journal ≡ Done s reply ∷ mid) (room : m1.journal.room + 1 ≡ m.journal.room) (sessions : m1.sessions ≡ m.sessions) (tables : m1.tables ≡ m.tables) (locks : m1.locks ≡ m.locks) (committed : m1.committed ≡ m.committed) where
-    pub over_kept : past_of q.journal ≡ End s ∷ past_of m1.journal → q.journal.room + 1 ≡ m1.journal.room → q.sessions ≡ slice_set m1.sessions s (stopped seat xact block) → q.tables ≡ m1.tables → q.locks ≡ m1.locks → q.committed ≡ m1.committed → IsKept scripts q
-    over_kept noted_end room_end set tables_end locks_end committed_end =
-        let amid : IsAmid scripts m1 s (used + 1) = amid_notes scripts m m1 s used t (Done s reply) over.amid over.there (still_done s reply) refl over.comes noted room sessions tables locks committed in
-        amid_stops scripts m1 q s (used + 1) t (stopped seat xact block) (End s) amid (rw sessions over.there) (still_end s) refl (rw noted end_comes) (rw noted over.unasked) (rw noted over.settled) refl (rw noted (own_stops block is)) over.its (omega (arith, over.fits block)) noted_end room_end set tables_end locks_end committed_end
+  module _ (m1 q : Parts) (block : Block) (is : state_of block ≡ block_after reply (state_of seat.block)) (noted : past_of m1.journal ≡ Done s reply ∷ mid) (room : m1.journal.room + 1 ≡ m.journal.room) (sessions : m1.sessions ≡ m.sessions) (tables : m1.tables ≡ m.tables) (locks : m1.locks ≡ m.locks) (committed : m1.committed ≡ m.committed) (weight_is : m1.weight ≡ m.weight) where
+    pub over_kept : past_of q.journal ≡ End s ∷ past_of m1.journal → q.journal.room + 1 ≡ m1.journal.room → q.sessions ≡ slice_set m1.sessions s (stopped seat xact block) → q.tables ≡ m1.tables → q.locks ≡ m1.locks → q.committed ≡ m1.committed → q.weight ≡ m1.weight → IsKept terms q
+    over_kept noted_end room_end set tables_end locks_end committed_end weight_end =
+        let amid : IsAmid terms m1 s (used + 1) = amid_notes terms m m1 s used t (Done s reply) over.amid over.there (still_done s reply) refl over.comes noted room sessions tables locks committed weight_is in
+        amid_stops terms m1 q s (used + 1) t (stopped seat xact block) (End s) amid (rw sessions over.there) (still_end s) refl (rw noted end_comes) (rw noted over.unasked) (rw noted over.settled) refl (rw noted (own_stops block is)) over.its (omega (arith, over.fits block)) noted_end room_end set tables_end locks_end committed_end weight_end
 
 -- ---- BEGIN
 
@@ -109,14 +109,14 @@ light_stops seat block busy some b = by_case seat.xact refl some where
   by_case None is some = absurd cc
   by_case (Some x) is some = rw (is, busy) (omega arith)
 
-pub begin_over : (scripts : Scripts) (p : Parts) (s : ℕ) (seat : Session) → IsKept scripts p → slice_get p.sessions s ≡ Some seat → can_go_on (past_of p.journal) s ≡ true → IsSome seat.xact → statement_of scripts seat.hand 0 ≡ Some statements.Begin → IsOver scripts p s 0 seat seat (past_of p.journal) seat.xact (replies.Tag tags.Begin 0)
-begin_over scripts p s seat kept there can some statement =
+pub begin_over : (terms : Terms) (p : Parts) (s : ℕ) (seat : Session) → IsKept terms p → slice_get p.sessions s ≡ Some seat → can_go_on (past_of p.journal) s ≡ true → IsSome seat.xact → statement_of terms seat.hand 0 ≡ Some statements.Begin → IsOver terms p s 0 seat seat (past_of p.journal) seat.xact (replies.Tag tags.Begin 0)
+begin_over terms p s seat kept there can some statement =
     let old : Past = past_of p.journal in
-    let g : IsGoing scripts old s seat = going scripts p s seat kept there can in
+    let g : IsGoing terms old s seat = going terms p s seat kept there can in
     let reply : Reply = replies.Tag tags.Begin 0 in
-    let done_comes : MayCome scripts old (Done s reply) = comes_done scripts old s (doing old s) kept.sound.legal refl kept.clear.settled reply (rw (g.outline.hand_is, g.under.none_done, statement, g.under.no_acts, g.outline.xact_is) (begin_answers seat.xact (block_state old s) some)) (rw kept.clear.owed_is tt) in
+    let done_comes : MayCome terms old (Done s reply) = comes_done terms old s (doing old s) kept.sound.legal refl kept.clear.settled reply (rw (g.outline.hand_is, g.under.none_done, statement, g.under.no_acts, g.outline.xact_is) (begin_answers seat.xact (block_state old s) some)) (rw kept.clear.owed_is tt) in
     record {
-      amid = amid_begins scripts p s kept;
+      amid = amid_begins terms p s kept;
       there = there;
       is_last = record {
         block = g.block;
@@ -131,7 +131,7 @@ begin_over scripts p s seat kept there can some statement =
       settled = kept.clear.settled;
       unasked = g.free;
       comes = done_comes;
-      tail = tail_by_done scripts s old reply kept.sound.legal kept.clear.owed_is done_comes;
+      tail = tail_by_done terms s old reply kept.sound.legal kept.clear.owed_is done_comes;
       its = λ x is. is;
       fits = light_stops seat g.block g.busy some;
     }
@@ -148,17 +148,17 @@ end_answers true state = refl
 end_answers false state = refl
 
 -- no transaction is open
-pub none_ended : (scripts : Scripts) (p : Parts) (s : ℕ) (seat : Session) (commits : Bool) → IsKept scripts p → slice_get p.sessions s ≡ Some seat → can_go_on (past_of p.journal) s ≡ true → statement_of scripts seat.hand 0 ≡ Some (cond commits statements.Commit statements.Rollback) → seat.xact ≡ None → IsEnded scripts p s seat (past_of p.journal) commits
-none_ended scripts p s seat commits kept there can statement none =
+pub none_ended : (terms : Terms) (p : Parts) (s : ℕ) (seat : Session) (commits : Bool) → IsKept terms p → slice_get p.sessions s ≡ Some seat → can_go_on (past_of p.journal) s ≡ true → statement_of terms seat.hand 0 ≡ Some (cond commits statements.Commit statements.Rollback) → seat.xact ≡ None → IsEnded terms p s seat (past_of p.journal) commits
+none_ended terms p s seat commits kept there can statement none =
     let old : Past = past_of p.journal in
-    let g : IsGoing scripts old s seat = going scripts p s seat kept there can in
+    let g : IsGoing terms old s seat = going terms p s seat kept there can in
     let reply : Reply = end_reply seat commits in
-    let done_comes : MayCome scripts old (Done s reply) = comes_done scripts old s (doing old s) kept.sound.legal refl kept.clear.settled reply (rw (g.outline.hand_is, g.under.none_done, statement, g.under.no_acts, g.outline.xact_is, none, g.outline.block_is) (end_answers commits (state_of seat.block))) (rw kept.clear.owed_is tt) in
+    let done_comes : MayCome terms old (Done s reply) = comes_done terms old s (doing old s) kept.sound.legal refl kept.clear.settled reply (rw (g.outline.hand_is, g.under.none_done, statement, g.under.no_acts, g.outline.xact_is, none, g.outline.block_is) (end_answers commits (state_of seat.block))) (rw kept.clear.owed_is tt) in
     record {
       used = 0;
       t = seat;
       over = record {
-        amid = amid_begins scripts p s kept;
+        amid = amid_begins terms p s kept;
         there = there;
         is_last = record {
           block = g.block;
@@ -173,7 +173,7 @@ none_ended scripts p s seat commits kept there can statement none =
         settled = kept.clear.settled;
         unasked = g.free;
         comes = done_comes;
-        tail = tail_by_done scripts s old reply kept.sound.legal kept.clear.owed_is done_comes;
+        tail = tail_by_done terms s old reply kept.sound.legal kept.clear.owed_is done_comes;
         its = λ x is. absurd cc;
         fits = λ b. rw (g.busy, none) (omega arith);
       };
@@ -185,43 +185,43 @@ unfailed_tag OpenBlock unfailed = refl
 unfailed_tag (FailedBlock r) unfailed = absurd (unfailed r refl)
 
 -- the open transaction ends by this entry, and locks are granted
-module _ (scripts : Scripts) (p m : Parts) (s x : ℕ) (seat : Session) (commits : Bool) (kept : IsKept scripts p) (there : slice_get p.sessions s ≡ Some seat) (can : can_go_on (past_of p.journal) s ≡ true) (statement : statement_of scripts seat.hand 0 ≡ Some (cond commits statements.Commit statements.Rollback)) (own : seat.xact ≡ Some x) where
+module _ (terms : Terms) (p m : Parts) (s x : ℕ) (seat : Session) (commits : Bool) (kept : IsKept terms p) (there : slice_get p.sessions s ≡ Some seat) (can : can_go_on (past_of p.journal) s ≡ true) (statement : statement_of terms seat.hand 0 ≡ Some (cond commits statements.Commit statements.Rollback)) (own : seat.xact ≡ Some x) where
   abbrev old : Past
   old = past_of p.journal
 
   abbrev granted : List Grant
   granted = m.locks.locks.granted
 
-  going_so : IsGoing scripts old s seat
-  going_so = going scripts p s seat kept there can
+  going_so : IsGoing terms old s seat
+  going_so = going terms p s seat kept there can
 
   pub is_open : IsXact old s x
   is_open =
-      let g : IsGoing scripts old s seat = going_so in
+      let g : IsGoing terms old s seat = going_so in
       let open_xact : xact_of old s ≡ Some x = g.outline.xact_is ∙ own in
-      record { session = (xact_is scripts old s x kept.sound.legal open_xact).own; open_xact = open_xact }
+      record { session = (xact_is terms old s x kept.sound.legal open_xact).own; open_xact = open_xact }
 
-  module _ (e : Entry) (by : IsBy old s e) (moves : moved old e (doing old s) ≡ record (doing old s) { xact = None; wants = None }) (e_tail : Tail scripts s old (e ∷ old) false (driver old) (IsLeast old s)) (owes : owed scripts (e ∷ old) ≡ Some (Done s (end_reply seat commits))) (come : HaveCome scripts (xact_in p.sessions) granted (e ∷ old) m.locks.locks) (amid : IsAmid scripts m s 1) (noted : past_of m.journal ≡ locked_by (xact_in p.sessions) granted (e ∷ old)) (woke : m.sessions ≡ woken granted p.sessions) (settled : IsSettled m.locks.locks) where
+  module _ (e : Entry) (by : IsBy old s e) (moves : moved old e (doing old s) ≡ record (doing old s) { xact = None; wants = None }) (e_tail : Tail terms s old (e ∷ old) false (driver old) (IsLeast old s)) (owes : owed terms (e ∷ old) ≡ Some (Done s (end_reply seat commits))) (come : HaveCome terms (xact_in p.sessions) granted (e ∷ old) m.locks.locks) (amid : IsAmid terms m s 1) (noted : past_of m.journal ≡ locked_by (xact_in p.sessions) granted (e ∷ old)) (woke : m.sessions ≡ woken granted p.sessions) (settled : IsSettled m.locks.locks) where
     abbrev then : Past
     then = locked_by (xact_in p.sessions) granted (e ∷ old)
 
     doing_then : doing then s ≡ calm (is_granted s granted) (record (doing old s) { xact = None; wants = None })
-    doing_then = doing_granted scripts (e ∷ old) (xact_in p.sessions) m.locks.locks s come ∙ ap (λ (d : Doing). calm (is_granted s granted) d) (own_moves old s e by ∙ moves)
+    doing_then = doing_granted terms (e ∷ old) (xact_in p.sessions) m.locks.locks s come ∙ ap (λ (d : Doing). calm (is_granted s granted) d) (own_moves old s e by ∙ moves)
 
     settled_so : is_settled then ≡ true
-    settled_so = settled_then scripts (e ∷ old) (xact_in p.sessions) m.locks.locks come settled
+    settled_so = settled_then terms (e ∷ old) (xact_in p.sessions) m.locks.locks come settled
 
-    owes_then : owed scripts then ≡ Some (Done s (end_reply seat commits))
-    owes_then = (leaves_so scripts (xact_in p.sessions) granted (e ∷ old)).owes ∙ owes
+    owes_then : owed terms then ≡ Some (Done s (end_reply seat commits))
+    owes_then = (leaves_so terms (xact_in p.sessions) granted (e ∷ old)).owes ∙ owes
 
-    done_then : MayCome scripts then (Done s (end_reply seat commits))
+    done_then : MayCome terms then (Done s (end_reply seat commits))
     done_then =
-        let g : IsGoing scripts old s seat = going_so in
-        comes_done scripts then s (calm (is_granted s granted) (record (doing old s) { xact = None; wants = None })) come.legal doing_then settled_so (end_reply seat commits) (rw (g.outline.hand_is, g.under.none_done, statement, g.under.no_acts, g.outline.block_is) (end_answers commits (state_of seat.block))) (rw owes_then refl)
+        let g : IsGoing terms old s seat = going_so in
+        comes_done terms then s (calm (is_granted s granted) (record (doing old s) { xact = None; wants = None })) come.legal doing_then settled_so (end_reply seat commits) (rw (g.outline.hand_is, g.under.none_done, statement, g.under.no_acts, g.outline.block_is) (end_answers commits (state_of seat.block))) (rw owes_then refl)
 
-    last_then : IsLast scripts then s seat None (end_reply seat commits)
+    last_then : IsLast terms then s seat None (end_reply seat commits)
     last_then =
-        let g : IsGoing scripts old s seat = going_so in
+        let g : IsGoing terms old s seat = going_so in
         record {
           block = g.block;
           busy = ap (λ (d : Doing). d.hand) doing_then ∙ (g.outline.hand_is ∙ g.busy);
@@ -233,9 +233,9 @@ module _ (scripts : Scripts) (p m : Parts) (s x : ℕ) (seat : Session) (commits
           none_left = no_implicit _;
         }
 
-    pub xact_ended : IsEnded scripts m s seat old commits
+    pub xact_ended : IsEnded terms m s seat old commits
     xact_ended =
-        let g : IsGoing scripts old s seat = going_so in
+        let g : IsGoing terms old s seat = going_so in
         record {
           used = 1;
           t = calmed (is_granted s granted) seat;
@@ -244,9 +244,9 @@ module _ (scripts : Scripts) (p m : Parts) (s x : ℕ) (seat : Session) (commits
             there = rw (woke, woken_get granted p.sessions s, there) refl;
             is_last = rw noted last_then;
             settled = rw noted settled_so;
-            unasked = rw noted (unasked_idle scripts then s come.legal last_then.xact_is);
+            unasked = rw noted (unasked_idle terms then s come.legal last_then.xact_is);
             comes = rw noted done_then;
-            tail = rw noted (tail_on scripts s old then false (driver old) (IsLeast old s) (Done s (end_reply seat commits)) (tail_granted scripts s old (e ∷ old) false (driver old) (IsLeast old s) (xact_in p.sessions) m.locks.locks come e_tail) (tail_done s (end_reply seat commits)) (λ past r. refl) (inl refl) done_then (rw owes_then tt));
+            tail = rw noted (tail_on terms s old then false (driver old) (IsLeast old s) (Done s (end_reply seat commits)) (tail_granted terms s old (e ∷ old) false (driver old) (IsLeast old s) (xact_in p.sessions) m.locks.locks come e_tail) (tail_done s (end_reply seat commits)) (λ past r. refl) (inl refl) done_then (rw owes_then tt));
             its = λ y is. absurd cc;
             fits = λ b. rw (g.busy, own) (omega arith);
           };
@@ -255,35 +255,35 @@ module _ (scripts : Scripts) (p m : Parts) (s x : ℕ) (seat : Session) (commits
   -- there is room for it, and for the locks that it frees
   pub end_room : length p.locks.locks.waiting + 1 ≤ p.journal.room
   end_room =
-      let g : IsGoing scripts old s seat = going_so in
+      let g : IsGoing terms old s seat = going_so in
       let reserved : light p.sessions + length p.locks.locks.waiting ≤ p.journal.room + 0 = kept.sound.reserved in
       let some : 1 ≤ light_of seat = rw (g.busy, own) (omega arith) in
       omega (arith, reserved, some, light_at p.sessions s seat there)
 
-  module _ (hands : HandsOn (released p.locks.locks s) m.locks.locks) (room : m.journal.room + length granted + 1 ≡ p.journal.room) (woke : m.sessions ≡ woken granted p.sessions) (tables : m.tables ≡ p.tables) (count_same : m.locks.sessions ≡ p.locks.sessions) (settled : IsSettled m.locks.locks) where
-    pub commit_ended : commits ≡ true → past_of m.journal ≡ locked_by (xact_in p.sessions) granted (Commit x ∷ old) → m.committed ≡ slice_set p.committed x true → IsEnded scripts m s seat old commits
+  module _ (hands : HandsOn (released p.locks.locks s) m.locks.locks) (room : m.journal.room + length granted + 1 ≡ p.journal.room) (woke : m.sessions ≡ woken granted p.sessions) (tables : m.tables ≡ p.tables) (count_same : m.locks.sessions ≡ p.locks.sessions) (settled : IsSettled m.locks.locks) (weight_same : m.weight ≡ p.weight) where
+    pub commit_ended : commits ≡ true → past_of m.journal ≡ locked_by (xact_in p.sessions) granted (Commit x ∷ old) → m.committed ≡ slice_set p.committed x true → IsEnded terms m s seat old commits
     commit_ended commits_so noted marked =
-        let g : IsGoing scripts old s seat = going_so in
+        let g : IsGoing terms old s seat = going_so in
         let by : IsXact old s x = is_open in
-        let amid : IsAmid scripts p s 0 = amid_begins scripts p s kept in
-        let in_hand_is : statement_of scripts seat.hand 0 ≡ Some statements.Commit = rw commits_so at statement in
-        let comes_so : MayCome scripts old (Commit x) = comes_commit scripts old s (doing old s) kept.sound.legal refl kept.clear.settled x by g.block (g.outline.hand_is ∙ g.busy) g.under.none_refused (inr (rw (g.outline.hand_is, g.under.none_done) in_hand_is)) (rw kept.clear.owed_is tt) in
-        let begins : Tail scripts s old (Commit x ∷ old) false (driver old) (IsLeast old s) = tail_begins scripts s old old 0 (Commit x) (stage_begins scripts s old kept.sound.legal kept.clear.settled kept.clear.owed_is) (omega arith) (omega arith) (tail_commit x) (λ past r. refl) by comes_so (λ least. rw (kept.clear.owed_is, by.session) least) in
-        let tag : commit_tag (state_of seat.block) ≡ tags.Commit = unfailed_tag (state_of seat.block) (λ r failed. open_unfailed scripts old s x r kept.sound.legal kept.clear.owed_is by.open_xact (g.outline.block_is ∙ failed)) in
-        let owes : owed scripts (Commit x ∷ old) ≡ Some (Done s (end_reply seat commits)) = rw (by.session, g.outline.hand_is, g.under.none_done, in_hand_is, commits_so, tag) refl in
-        xact_ended (Commit x) by refl begins owes (commit_comes scripts p m s 0 x seat amid there by hands comes_so) (amid_commits scripts p m s 0 x seat amid there by hands room woke tables count_same settled own comes_so noted marked) noted woke settled
+        let amid : IsAmid terms p s 0 = amid_begins terms p s kept in
+        let in_hand_is : statement_of terms seat.hand 0 ≡ Some statements.Commit = rw commits_so at statement in
+        let comes_so : MayCome terms old (Commit x) = comes_commit terms old s (doing old s) kept.sound.legal refl kept.clear.settled x by g.block (g.outline.hand_is ∙ g.busy) g.under.none_refused (inr (rw (g.outline.hand_is, g.under.none_done) in_hand_is)) (rw kept.clear.owed_is tt) in
+        let begins : Tail terms s old (Commit x ∷ old) false (driver old) (IsLeast old s) = tail_begins terms s old old 0 (Commit x) (stage_begins terms s old kept.sound.legal kept.clear.settled kept.clear.owed_is) (omega arith) (omega arith) (tail_commit x) (λ past r. refl) by comes_so (λ least. rw (kept.clear.owed_is, by.session) least) in
+        let tag : commit_tag (state_of seat.block) ≡ tags.Commit = unfailed_tag (state_of seat.block) (λ r failed. open_unfailed terms old s x r kept.sound.legal kept.clear.owed_is by.open_xact (g.outline.block_is ∙ failed)) in
+        let owes : owed terms (Commit x ∷ old) ≡ Some (Done s (end_reply seat commits)) = rw (by.session, g.outline.hand_is, g.under.none_done, in_hand_is, commits_so, tag) refl in
+        xact_ended (Commit x) by refl begins owes (commit_comes terms p m s 0 x seat amid there by hands comes_so) (amid_commits terms p m s 0 x seat amid there by hands room woke tables count_same settled weight_same own comes_so noted marked) noted woke settled
 
-    pub abort_ended : commits ≡ false → past_of m.journal ≡ locked_by (xact_in p.sessions) granted (Abort x ∷ old) → m.committed ≡ p.committed → IsEnded scripts m s seat old commits
+    pub abort_ended : commits ≡ false → past_of m.journal ≡ locked_by (xact_in p.sessions) granted (Abort x ∷ old) → m.committed ≡ p.committed → IsEnded terms m s seat old commits
     abort_ended aborts_so noted marked =
-        let g : IsGoing scripts old s seat = going_so in
+        let g : IsGoing terms old s seat = going_so in
         let by : IsXact old s x = is_open in
-        let amid : IsAmid scripts p s 0 = amid_begins scripts p s kept in
+        let amid : IsAmid terms p s 0 = amid_begins terms p s kept in
         let busy : hand old s ≡ Some g.block = g.outline.hand_is ∙ g.busy in
-        let in_hand_is : statement_of scripts seat.hand 0 ≡ Some statements.Rollback = rw aborts_so at statement in
-        let comes_so : MayCome scripts old (Abort x) = comes_abort scripts old s (doing old s) kept.sound.legal refl kept.clear.settled x by (inr (rw (g.outline.hand_is, g.under.none_done) in_hand_is)) (rw kept.clear.owed_is tt) in
-        let begins : Tail scripts s old (Abort x ∷ old) false (driver old) (IsLeast old s) = tail_begins scripts s old old 0 (Abort x) (stage_begins scripts s old kept.sound.legal kept.clear.settled kept.clear.owed_is) (omega arith) (omega arith) (tail_abort x) (λ past r. refl) by comes_so (λ least. rw (by.session, busy, kept.clear.owed_is) least) in
-        let owes : owed scripts (Abort x ∷ old) ≡ Some (Done s (end_reply seat commits)) = rw (by.session, busy, g.under.none_refused, aborts_so) refl in
-        xact_ended (Abort x) by refl begins owes (abort_comes scripts p m s 0 x seat amid there by hands comes_so) (amid_aborts scripts p m s 0 x seat amid there by hands room woke tables count_same settled comes_so noted marked) noted woke settled
+        let in_hand_is : statement_of terms seat.hand 0 ≡ Some statements.Rollback = rw aborts_so at statement in
+        let comes_so : MayCome terms old (Abort x) = comes_abort terms old s (doing old s) kept.sound.legal refl kept.clear.settled x by (inr (rw (g.outline.hand_is, g.under.none_done) in_hand_is)) (rw kept.clear.owed_is tt) in
+        let begins : Tail terms s old (Abort x ∷ old) false (driver old) (IsLeast old s) = tail_begins terms s old old 0 (Abort x) (stage_begins terms s old kept.sound.legal kept.clear.settled kept.clear.owed_is) (omega arith) (omega arith) (tail_abort x) (λ past r. refl) by comes_so (λ least. rw (by.session, busy, kept.clear.owed_is) least) in
+        let owes : owed terms (Abort x ∷ old) ≡ Some (Done s (end_reply seat commits)) = rw (by.session, busy, g.under.none_refused, aborts_so) refl in
+        xact_ended (Abort x) by refl begins owes (abort_comes terms p m s 0 x seat amid there by hands comes_so) (amid_aborts terms p m s 0 x seat amid there by hands room woke tables count_same settled weight_same comes_so noted marked) noted woke settled
 
 -- the block is over
 pub end_closes : (seat : Session) (commits : Bool) → NoBlock ≡ block_after (end_reply seat commits) (state_of seat.block)
@@ -301,17 +301,17 @@ failed_cause statements.Commit refuse goes_on = absurd cc
 failed_cause statements.Rollback refuse goes_on = absurd cc
 failed_cause statement refuse goes_on = refl
 
-pub failed_refused : (scripts : Scripts) (p : Parts) (s place : ℕ) (seat : Session) (statement : Statement) → IsKept scripts p → slice_get p.sessions s ≡ Some seat → can_go_on (past_of p.journal) s ≡ true → statement_of scripts seat.hand 0 ≡ Some statement → starts NoBlock statement ≡ true → seat.block ≡ blocks.Failed place → CanBeRefused scripts (past_of p.journal) s seat (causes.BlockFailed place)
-failed_refused scripts p s place seat statement kept there can in_hand_is goes_on failed =
+pub failed_refused : (terms : Terms) (p : Parts) (s place : ℕ) (seat : Session) (statement : Statement) → IsKept terms p → slice_get p.sessions s ≡ Some seat → can_go_on (past_of p.journal) s ≡ true → statement_of terms seat.hand 0 ≡ Some statement → starts NoBlock statement ≡ true → seat.block ≡ blocks.Failed place → CanBeRefused terms (past_of p.journal) s seat (causes.BlockFailed place)
+failed_refused terms p s place seat statement kept there can in_hand_is goes_on failed =
     let old : Past = past_of p.journal in
-    let g : IsGoing scripts old s seat = going scripts p s seat kept there can in
+    let g : IsGoing terms old s seat = going terms p s seat kept there can in
     record {
       hand_is = g.outline.hand_is;
       xact_is = g.outline.xact_is;
       block_is = g.outline.block_is;
       closed_is = g.outline.closed_is;
       in_step = rw g.busy refl;
-      first_true = cause_free scripts old s (doing old s) kept.sound.legal refl kept.clear.settled kept.clear.owed_is ∙ rw (g.outline.hand_is, g.under.none_done, in_hand_is, g.outline.block_is, failed, failed_cause statement place goes_on) refl;
+      first_true = cause_free terms old s (doing old s) kept.sound.legal refl kept.clear.settled kept.clear.owed_is ∙ rw (g.outline.hand_is, g.under.none_done, in_hand_is, g.outline.block_is, failed, failed_cause statement place goes_on) refl;
       settled = kept.clear.settled;
       follows = rw kept.clear.owed_is tt;
     }

@@ -3,7 +3,7 @@ use Rattle.std.proofs.Common.{◌≡◌, ℕ, ◌+◌, ◌≤◌, [], ◌∷◌,
 use Rattle.std.specs.Prelude.{IsSome}
 use Rattle.al_history.specs.declared.entry.Entry.TheVariants.{Done, Commit, End}
 use Rattle.al_history.specs.declared.entry.Reply.{Reply}
-use Rattle.al_history.specs.declared.statement.Scripts.{Scripts}
+use Rattle.al_history.specs.declared.statement.Terms.{Terms}
 use Rattle.al_history.specs.Kept.{Kept}
 use Rattle.al_history.specs.Past.{Past, past_of}
 use Rattle.al_history.specs.Hand.{in_hand, statement_of, xact_of, implicit_of, if_no_block}
@@ -40,65 +40,65 @@ spent t x = record { hand = t.hand; dones = 1; refused = false; xact = x; look =
 abbrev pub rested : Session → Option ℕ → Session
 rested t x = record t { hand = None; xact = x; looked = false; wants = None }
 
-rests : (scripts : Scripts) (past : Past) (s : ℕ) (t : Session) (x : Option ℕ) → doing past s ≡ spent t x → IsMirror scripts (doing (End s ∷ past) s) (rested t x)
-rests scripts past s t x is =
+rests : (terms : Terms) (past : Past) (s : ℕ) (t : Session) (x : Option ℕ) → doing past s ≡ spent t x → IsMirror terms (doing (End s ∷ past) s) (rested t x)
+rests terms past s t x is =
     let state : doing (End s ∷ past) s ≡ moved past (End s) (spent t x) = own_moves past s (End s) refl ∙ ap (λ (d : Doing). moved past (End s) d) is in
-    subst (λ (d : Doing). IsMirror scripts d (rested t x)) (sym state) (record {
+    subst (λ (d : Doing). IsMirror terms d (rested t x)) (sym state) (record {
       outline = record { hand_is = refl; xact_is = refl; block_is = refl; closed_is = refl; wants_is = refl };
       underway = λ block busy. absurd cc;
     })
 
 -- ---- it is done
 
-module _ (scripts : Scripts) (past : Past) (s block : ℕ) (t : Session) (reply : Reply) (legal : Legal scripts past) (clear : IsClear scripts past) (done : CanBeDone scripts past s t reply) (busy : t.hand ≡ Some block) where
-  pub done_comes : MayCome scripts past (Done s reply)
-  done_comes = comes_done scripts past s (doing past s) legal refl clear.settled reply (rw (done.outline.hand_is, done.none_done, done.outline.xact_is, done.outline.block_is) done.answers) (rw clear.owed_is tt)
+module _ (terms : Terms) (past : Past) (s block : ℕ) (t : Session) (reply : Reply) (legal : Legal terms past) (clear : IsClear terms past) (done : CanBeDone terms past s t reply) (busy : t.hand ≡ Some block) where
+  pub done_comes : MayCome terms past (Done s reply)
+  done_comes = comes_done terms past s (doing past s) legal refl clear.settled reply (rw (done.outline.hand_is, done.none_done, done.outline.xact_is, done.outline.block_is) done.answers) (rw clear.owed_is tt)
 
   pub done_state : doing (Done s reply ∷ past) s ≡ spent t t.xact
   done_state = own_moves past s (Done s reply) refl ∙ rw (done.outline.hand_is, done.none_done, done.none_refused, done.outline.xact_is, done.outline.block_is, done.keeps_block, done.outline.closed_is) refl
 
-  pub done_owes : owed scripts (Done s reply ∷ past) ≡ Some (commit_or_end (if_no_block (state_of t.block) t.xact) s)
+  pub done_owes : owed terms (Done s reply ∷ past) ≡ Some (commit_or_end (if_no_block (state_of t.block) t.xact) s)
   done_owes =
-      let none : in_hand scripts (Done s reply ∷ past) s ≡ None = ap (λ (d : Doing). statement_of scripts d.hand d.dones) done_state ∙ done.last in
+      let none : in_hand terms (Done s reply ∷ past) s ≡ None = ap (λ (d : Doing). statement_of terms d.hand d.dones) done_state ∙ done.last in
       let its : implicit_of (Done s reply ∷ past) s ≡ if_no_block (state_of t.block) t.xact = ap (λ (d : Doing). if_no_block d.block d.xact) done_state in
       rw (none, its) refl
 
 -- ---- its transaction commits with it
 
-module _ (scripts : Scripts) (p m q : Parts) (j : Kept) (s block x : ℕ) (t : Session) (reply : Reply) (amid : IsAmid scripts p s 0) (clear : IsClear scripts (past_of p.journal)) (there : slice_get p.sessions s ≡ Some t) (done : CanBeDone scripts (past_of p.journal) s t reply) (busy : t.hand ≡ Some block) (outside : t.block ≡ blocks.Outside) (own : t.xact ≡ Some x) (noted : past_of j ≡ Done s reply ∷ past_of p.journal) (noted_room : j.room + 1 ≡ p.journal.room) where
+module _ (terms : Terms) (p m q : Parts) (j : Kept) (s block x : ℕ) (t : Session) (reply : Reply) (amid : IsAmid terms p s 0) (clear : IsClear terms (past_of p.journal)) (there : slice_get p.sessions s ≡ Some t) (done : CanBeDone terms (past_of p.journal) s t reply) (busy : t.hand ≡ Some block) (outside : t.block ≡ blocks.Outside) (own : t.xact ≡ Some x) (noted : past_of j ≡ Done s reply ∷ past_of p.journal) (noted_room : j.room + 1 ≡ p.journal.room) where
   abbrev old : Past
   old = past_of p.journal
 
   abbrev a : Parts
-  a = record { journal = j; sessions = p.sessions; tables = p.tables; locks = p.locks; committed = p.committed }
+  a = record { journal = j; sessions = p.sessions; tables = p.tables; locks = p.locks; committed = p.committed; weight = p.weight }
 
-  amid_done : IsAmid scripts a s 1
-  amid_done = amid_notes scripts p a s 0 t (Done s reply) amid there (still_done s reply) refl (done_comes scripts old s block t reply amid.sound.legal clear done busy) noted noted_room refl refl refl refl
+  amid_done : IsAmid terms a s 1
+  amid_done = amid_notes terms p a s 0 t (Done s reply) amid there (still_done s reply) refl (done_comes terms old s block t reply amid.sound.legal clear done busy) noted noted_room refl refl refl refl refl
 
   by : IsXact (Done s reply ∷ old) s x
-  by = let open_so : xact_of old s ≡ Some x = done.outline.xact_is ∙ own in record { session = (xact_is scripts old s x amid.sound.legal open_so).own; open_xact = open_so }
+  by = let open_so : xact_of old s ≡ Some x = done.outline.xact_is ∙ own in record { session = (xact_is terms old s x amid.sound.legal open_so).own; open_xact = open_so }
 
   by_done : IsXact (past_of j) s x
   by_done = rw noted by
 
   state_done : doing (past_of j) s ≡ spent t t.xact
-  state_done = subst (λ (past : Past). doing past s ≡ spent t t.xact) (sym noted) (done_state scripts old s block t reply amid.sound.legal clear done busy)
+  state_done = subst (λ (past : Past). doing past s ≡ spent t t.xact) (sym noted) (done_state terms old s block t reply amid.sound.legal clear done busy)
 
-  owes_done : owed scripts (Done s reply ∷ old) ≡ Some (Commit x)
-  owes_done = done_owes scripts old s block t reply amid.sound.legal clear done busy ∙ rw (outside, own) refl
+  owes_done : owed terms (Done s reply ∷ old) ≡ Some (Commit x)
+  owes_done = done_owes terms old s block t reply amid.sound.legal clear done busy ∙ rw (outside, own) refl
 
-  commit_may : MayCome scripts (past_of j) (Commit x)
-  commit_may = rw noted (comes_commit scripts (Done s reply ∷ old) s (spent t t.xact) (done_comes scripts old s block t reply amid.sound.legal clear done busy, amid.sound.legal) (done_state scripts old s block t reply amid.sound.legal clear done busy) clear.settled x by block busy refl (inl (done.last, rw outside refl)) (rw owes_done refl))
+  commit_may : MayCome terms (past_of j) (Commit x)
+  commit_may = rw noted (comes_commit terms (Done s reply ∷ old) s (spent t t.xact) (done_comes terms old s block t reply amid.sound.legal clear done busy, amid.sound.legal) (done_state terms old s block t reply amid.sound.legal clear done busy) clear.settled x by block busy refl (inl (done.last, rw outside refl)) (rw owes_done refl))
 
-  tail_done : Tail scripts s old (past_of j) false (driver old) (IsLeast old s)
-  tail_done = rw noted (tail_by_done scripts s old reply amid.sound.legal clear.owed_is (done_comes scripts old s block t reply amid.sound.legal clear done busy))
+  tail_done : Tail terms s old (past_of j) false (driver old) (IsLeast old s)
+  tail_done = rw noted (tail_by_done terms s old reply amid.sound.legal clear.owed_is (done_comes terms old s block t reply amid.sound.legal clear done busy))
 
-  module _ (c_noted : past_of m.journal ≡ locked_by (xact_in p.sessions) m.locks.locks.granted (Commit x ∷ past_of j)) (c_room : m.journal.room + length m.locks.locks.granted + 1 ≡ j.room) (c_woke : m.sessions ≡ woken m.locks.locks.granted p.sessions) (c_tables : m.tables ≡ p.tables) (c_count : m.locks.sessions ≡ p.locks.sessions) (c_marked : m.committed ≡ slice_set p.committed x true) (c_settled : IsSettled m.locks.locks) (c_hands : HandsOn (released p.locks.locks s) m.locks.locks) where
-    amid_committed : IsAmid scripts m s 2
-    amid_committed = amid_commits scripts a m s 1 x t amid_done there by_done c_hands c_room c_woke c_tables c_count c_settled own commit_may c_noted c_marked
+  module _ (c_noted : past_of m.journal ≡ locked_by (xact_in p.sessions) m.locks.locks.granted (Commit x ∷ past_of j)) (c_room : m.journal.room + length m.locks.locks.granted + 1 ≡ j.room) (c_woke : m.sessions ≡ woken m.locks.locks.granted p.sessions) (c_tables : m.tables ≡ p.tables) (c_count : m.locks.sessions ≡ p.locks.sessions) (c_marked : m.committed ≡ slice_set p.committed x true) (c_settled : IsSettled m.locks.locks) (c_hands : HandsOn (released p.locks.locks s) m.locks.locks) (c_weight : m.weight ≡ p.weight) where
+    amid_committed : IsAmid terms m s 2
+    amid_committed = amid_commits terms a m s 1 x t amid_done there by_done c_hands c_room c_woke c_tables c_count c_settled c_weight own commit_may c_noted c_marked
 
-    come : HaveCome scripts (xact_in p.sessions) m.locks.locks.granted (Commit x ∷ past_of j) m.locks.locks
-    come = commit_comes scripts a m s 1 x t amid_done there by_done c_hands commit_may
+    come : HaveCome terms (xact_in p.sessions) m.locks.locks.granted (Commit x ∷ past_of j) m.locks.locks
+    come = commit_comes terms a m s 1 x t amid_done there by_done c_hands commit_may
 
     abbrev calms : Bool
     calms = is_granted s m.locks.locks.granted
@@ -109,31 +109,31 @@ module _ (scripts : Scripts) (p m q : Parts) (j : Kept) (s block x : ℕ) (t : S
     state_committed : doing (past_of m.journal) s ≡ spent t None
     state_committed =
         let commits : doing (Commit x ∷ past_of j) s ≡ spent t None = own_moves (past_of j) s (Commit x) by_done ∙ ap (λ (d : Doing). moved (past_of j) (Commit x) d) state_done in
-        subst (λ (past : Past). doing past s ≡ spent t None) (sym c_noted) (doing_granted scripts (Commit x ∷ past_of j) (xact_in p.sessions) m.locks.locks s come ∙ (ap (λ (d : Doing). calm calms d) commits ∙ calm_none calms (spent t None) refl))
+        subst (λ (past : Past). doing past s ≡ spent t None) (sym c_noted) (doing_granted terms (Commit x ∷ past_of j) (xact_in p.sessions) m.locks.locks s come ∙ (ap (λ (d : Doing). calm calms d) commits ∙ calm_none calms (spent t None) refl))
 
     settled_then_so : is_settled (past_of m.journal) ≡ true
-    settled_then_so = rw c_noted (settled_then scripts (Commit x ∷ past_of j) (xact_in p.sessions) m.locks.locks come c_settled)
+    settled_then_so = rw c_noted (settled_then terms (Commit x ∷ past_of j) (xact_in p.sessions) m.locks.locks come c_settled)
 
-    owes_end : owed scripts (past_of m.journal) ≡ Some (End s)
+    owes_end : owed terms (past_of m.journal) ≡ Some (End s)
     owes_end =
-        let so : LeavesSo scripts (Commit x ∷ past_of j) (locked_by (xact_in p.sessions) m.locks.locks.granted (Commit x ∷ past_of j)) = leaves_so scripts (xact_in p.sessions) m.locks.locks.granted (Commit x ∷ past_of j) in
-        let none : in_hand scripts (past_of j) s ≡ None = ap (λ (d : Doing). statement_of scripts d.hand d.dones) state_done ∙ done.last in
+        let so : LeavesSo terms (Commit x ∷ past_of j) (locked_by (xact_in p.sessions) m.locks.locks.granted (Commit x ∷ past_of j)) = leaves_so terms (xact_in p.sessions) m.locks.locks.granted (Commit x ∷ past_of j) in
+        let none : in_hand terms (past_of j) s ≡ None = ap (λ (d : Doing). statement_of terms d.hand d.dones) state_done ∙ done.last in
         rw c_noted (so.owes ∙ rw (by_done.session, none) refl)
 
-    end_may : MayCome scripts (past_of m.journal) (End s)
-    end_may = comes_end scripts (past_of m.journal) s (spent t None) amid_committed.sound.legal state_committed settled_then_so block busy (inl done.last) (rw outside refl) (rw owes_end refl)
+    end_may : MayCome terms (past_of m.journal) (End s)
+    end_may = comes_end terms (past_of m.journal) s (spent t None) amid_committed.sound.legal state_committed settled_then_so block busy (inl done.last) (rw outside refl) (rw owes_end refl)
 
-    tail_committed : Tail scripts s old (past_of m.journal) false (driver old) (IsLeast old s)
-    tail_committed = rw c_noted (tail_granted scripts s old (Commit x ∷ past_of j) false (driver old) (IsLeast old s) (xact_in p.sessions) m.locks.locks come (tail_on scripts s old (past_of j) false (driver old) (IsLeast old s) (Commit x) tail_done (tail_commit x) (λ past r. refl) (inl by_done.session) commit_may (rw noted (rw owes_done tt))))
+    tail_committed : Tail terms s old (past_of m.journal) false (driver old) (IsLeast old s)
+    tail_committed = rw c_noted (tail_granted terms s old (Commit x ∷ past_of j) false (driver old) (IsLeast old s) (xact_in p.sessions) m.locks.locks come (tail_on terms s old (past_of j) false (driver old) (IsLeast old s) (Commit x) tail_done (tail_commit x) (λ past r. refl) (inl by_done.session) commit_may (rw noted (rw owes_done tt))))
 
-    module _ (e_noted : past_of q.journal ≡ End s ∷ past_of m.journal) (e_room : q.journal.room + 1 ≡ m.journal.room) (e_set : q.sessions ≡ slice_set m.sessions s (rested t None)) (e_tables : q.tables ≡ m.tables) (e_locks : q.locks ≡ m.locks) (e_committed : q.committed ≡ m.committed) where
-      pub commits_kept : IsKept scripts q
+    module _ (e_noted : past_of q.journal ≡ End s ∷ past_of m.journal) (e_room : q.journal.room + 1 ≡ m.journal.room) (e_set : q.sessions ≡ slice_set m.sessions s (rested t None)) (e_tables : q.tables ≡ m.tables) (e_locks : q.locks ≡ m.locks) (e_committed : q.committed ≡ m.committed) (e_weight : q.weight ≡ m.weight) where
+      pub commits_kept : IsKept terms q
       commits_kept =
           let fits : light_of (rested t None) + 2 + 1 ≤ light_of (calmed calms t) = rw (own, busy) (omega arith) in
-          amid_stops scripts m q s 2 (calmed calms t) (rested t None) (End s) amid_committed there_then (still_end s) refl end_may (unasked_idle scripts (past_of m.journal) s amid_committed.sound.legal (ap (λ (d : Doing). d.xact) state_committed)) settled_then_so refl (rests scripts (past_of m.journal) s t None state_committed) (λ y its. absurd cc) fits e_noted e_room e_set e_tables e_locks e_committed
+          amid_stops terms m q s 2 (calmed calms t) (rested t None) (End s) amid_committed there_then (still_end s) refl end_may (unasked_idle terms (past_of m.journal) s amid_committed.sound.legal (ap (λ (d : Doing). d.xact) state_committed)) settled_then_so refl (rests terms (past_of m.journal) s t None state_committed) (λ y its. absurd cc) fits e_noted e_room e_set e_tables e_locks e_committed e_weight
 
-      pub commits_went : Went scripts s old (past_of q.journal) false (driver old) (IsLeast old s)
-      commits_went = rw e_noted (tail_ends scripts s old (past_of m.journal) false (driver old) (IsLeast old s) tail_committed end_may (rw owes_end tt))
+      pub commits_went : Went terms s old (past_of q.journal) false (driver old) (IsLeast old s)
+      commits_went = rw e_noted (tail_ends terms s old (past_of m.journal) false (driver old) (IsLeast old s) tail_committed end_may (rw owes_end tt))
 
       pub commits_rows : row_entries (past_of q.journal) ≡ row_entries old
       commits_rows = rw (e_noted, c_noted) (rows_granted (xact_in p.sessions) m.locks.locks.granted (Commit x ∷ past_of j) ∙ rw noted refl)
@@ -144,41 +144,41 @@ step_three : (o : Option ℕ) → 3 ≤ of_step o
 step_three None = omega arith
 step_three (Some x) = omega arith
 
-module _ (scripts : Scripts) (p q : Parts) (j : Kept) (s block : ℕ) (t : Session) (reply : Reply) (amid : IsAmid scripts p s 0) (clear : IsClear scripts (past_of p.journal)) (there : slice_get p.sessions s ≡ Some t) (done : CanBeDone scripts (past_of p.journal) s t reply) (busy : t.hand ≡ Some block) (within : if_no_block (state_of t.block) t.xact ≡ None) (noted : past_of j ≡ Done s reply ∷ past_of p.journal) (noted_room : j.room + 1 ≡ p.journal.room) (e_noted : past_of q.journal ≡ End s ∷ past_of j) (e_room : q.journal.room + 1 ≡ j.room) (e_set : q.sessions ≡ slice_set p.sessions s (rested t t.xact)) (e_tables : q.tables ≡ p.tables) (e_locks : q.locks ≡ p.locks) (e_committed : q.committed ≡ p.committed) where
+module _ (terms : Terms) (p q : Parts) (j : Kept) (s block : ℕ) (t : Session) (reply : Reply) (amid : IsAmid terms p s 0) (clear : IsClear terms (past_of p.journal)) (there : slice_get p.sessions s ≡ Some t) (done : CanBeDone terms (past_of p.journal) s t reply) (busy : t.hand ≡ Some block) (within : if_no_block (state_of t.block) t.xact ≡ None) (noted : past_of j ≡ Done s reply ∷ past_of p.journal) (noted_room : j.room + 1 ≡ p.journal.room) (e_noted : past_of q.journal ≡ End s ∷ past_of j) (e_room : q.journal.room + 1 ≡ j.room) (e_set : q.sessions ≡ slice_set p.sessions s (rested t t.xact)) (e_tables : q.tables ≡ p.tables) (e_locks : q.locks ≡ p.locks) (e_committed : q.committed ≡ p.committed) (e_weight : q.weight ≡ p.weight) where
   abbrev start : Past
   start = past_of p.journal
 
   abbrev between : Parts
-  between = record { journal = j; sessions = p.sessions; tables = p.tables; locks = p.locks; committed = p.committed }
+  between = record { journal = j; sessions = p.sessions; tables = p.tables; locks = p.locks; committed = p.committed; weight = p.weight }
 
-  comes_so : MayCome scripts start (Done s reply)
-  comes_so = done_comes scripts start s block t reply amid.sound.legal clear done busy
+  comes_so : MayCome terms start (Done s reply)
+  comes_so = done_comes terms start s block t reply amid.sound.legal clear done busy
 
-  amid_open : IsAmid scripts between s 1
-  amid_open = amid_notes scripts p between s 0 t (Done s reply) amid there (still_done s reply) refl comes_so noted noted_room refl refl refl refl
+  amid_open : IsAmid terms between s 1
+  amid_open = amid_notes terms p between s 0 t (Done s reply) amid there (still_done s reply) refl comes_so noted noted_room refl refl refl refl refl
 
   state_open : doing (past_of j) s ≡ spent t t.xact
-  state_open = subst (λ (past : Past). doing past s ≡ spent t t.xact) (sym noted) (done_state scripts start s block t reply amid.sound.legal clear done busy)
+  state_open = subst (λ (past : Past). doing past s ≡ spent t t.xact) (sym noted) (done_state terms start s block t reply amid.sound.legal clear done busy)
 
-  owes_open : owed scripts (past_of j) ≡ Some (End s)
-  owes_open = rw noted (done_owes scripts start s block t reply amid.sound.legal clear done busy ∙ rw within refl)
+  owes_open : owed terms (past_of j) ≡ Some (End s)
+  owes_open = rw noted (done_owes terms start s block t reply amid.sound.legal clear done busy ∙ rw within refl)
 
   settled_open : is_settled (past_of j) ≡ true
   settled_open = rw noted clear.settled
 
-  end_open : MayCome scripts (past_of j) (End s)
-  end_open = comes_end scripts (past_of j) s (spent t t.xact) amid_open.sound.legal state_open settled_open block busy (inl done.last) within (rw owes_open refl)
+  end_open : MayCome terms (past_of j) (End s)
+  end_open = comes_end terms (past_of j) s (spent t t.xact) amid_open.sound.legal state_open settled_open block busy (inl done.last) within (rw owes_open refl)
 
-  pub stays_kept : IsKept scripts q
+  pub stays_kept : IsKept terms q
   stays_kept =
       let fits : light_of (rested t t.xact) + 1 + 1 ≤ light_of t = rw busy (omega (arith, step_three t.xact)) in
-      let unasked : asks s (waiting (past_of j)) ≡ false = rw noted (unasked_free scripts start s amid.sound.legal clear.owed_is done.outline.wants_is) in
-      amid_stops scripts between q s 1 t (rested t t.xact) (End s) amid_open there (still_end s) refl end_open unasked settled_open refl (rests scripts (past_of j) s t t.xact state_open) (λ y its. its) fits e_noted e_room e_set e_tables e_locks e_committed
+      let unasked : asks s (waiting (past_of j)) ≡ false = rw noted (unasked_free terms start s amid.sound.legal clear.owed_is done.outline.wants_is) in
+      amid_stops terms between q s 1 t (rested t t.xact) (End s) amid_open there (still_end s) refl end_open unasked settled_open refl (rests terms (past_of j) s t t.xact state_open) (λ y its. its) fits e_noted e_room e_set e_tables e_locks e_committed e_weight
 
-  pub stays_went : Went scripts s start (past_of q.journal) false (driver start) (IsLeast start s)
+  pub stays_went : Went terms s start (past_of q.journal) false (driver start) (IsLeast start s)
   stays_went =
-      let tail : Tail scripts s start (past_of j) false (driver start) (IsLeast start s) = rw noted (tail_by_done scripts s start reply amid.sound.legal clear.owed_is comes_so) in
-      rw e_noted (tail_ends scripts s start (past_of j) false (driver start) (IsLeast start s) tail end_open (rw owes_open tt))
+      let tail : Tail terms s start (past_of j) false (driver start) (IsLeast start s) = rw noted (tail_by_done terms s start reply amid.sound.legal clear.owed_is comes_so) in
+      rw e_noted (tail_ends terms s start (past_of j) false (driver start) (IsLeast start s) tail end_open (rw owes_open tt))
 
   pub stays_rows : row_entries (past_of q.journal) ≡ row_entries start
   stays_rows = rw (e_noted, noted) refl
@@ -197,8 +197,8 @@ busy_by t in_step = by_hand t.hand refl in_step where
   by_hand (Some block) is some = record { block = block; is = is }
 
 -- the light entries of a step in hand have their places, besides the requests that wait
-pub spare : (scripts : Scripts) (p : Parts) (s used : ℕ) (t : Session) → IsSound scripts p used → slice_get p.sessions s ≡ Some t → IsSome t.hand → of_xact t.xact + 3 + length p.locks.locks.waiting ≤ p.journal.room + used
-spare scripts p s used t sound there in_step =
+pub spare : (terms : Terms) (p : Parts) (s used : ℕ) (t : Session) → IsSound terms p used → slice_get p.sessions s ≡ Some t → IsSome t.hand → of_xact t.xact + 3 + length p.locks.locks.waiting ≤ p.journal.room + used
+spare terms p s used t sound there in_step =
     let b : IsBusy t = busy_by t in_step in
     let most : of_xact t.xact + 3 ≤ light_of t = rw b.is (omega (arith, step_three t.xact)) in
     omega (arith, most, light_at p.sessions s t there, sound.reserved)

@@ -8,7 +8,7 @@ use Rattle.al_history.specs.declared.entry.Cause.TheVariants as causes
 use Rattle.al_history.specs.declared.entry.Entry.TheVariants.{Give, Abort, Cancel, Close}
 use Rattle.al_history.specs.declared.entry.Want.{Want}
 use Rattle.al_history.specs.declared.statement.ScriptBlock.{ScriptBlock}
-use Rattle.al_history.specs.declared.statement.Scripts.{Scripts}
+use Rattle.al_history.specs.declared.statement.Terms.{Terms}
 use Rattle.al_history.specs.Kept.{Kept}
 use Rattle.al_history.specs.Past.{Past, past_of}
 use Rattle.al_history.specs.Hand.{hand, dones, in_hand, xact_of, closed, statement_of}
@@ -48,9 +48,9 @@ pub none_of : (o : Option ℕ) → is_some o ≡ false → o ≡ None
 none_of None e = refl
 none_of (Some block) e = absurd cc
 
-module _ (scripts : Scripts) (p : Parts) (kept : IsKept scripts p) (s : ℕ) (t : Session) where
-  pub got : s < scripts.sessions → t ≡ get_or p.sessions s t → slice_get p.sessions s ≡ Some t
-  got known is = slice_get_read p.sessions scripts.sessions s t (sym kept.sound.count) known is
+module _ (terms : Terms) (p : Parts) (kept : IsKept terms p) (s : ℕ) (t : Session) where
+  pub got : s < terms.scripts.sessions → t ≡ get_or p.sessions s t → slice_get p.sessions s ≡ Some t
+  got known is = slice_get_read p.sessions terms.scripts.sessions s t (sym kept.sound.count) known is
 
   -- whether it has a step in hand
   pub hand_is : slice_get p.sessions s ≡ Some t → hand (past_of p.journal) s ≡ t.hand
@@ -60,7 +60,7 @@ module _ (scripts : Scripts) (p : Parts) (kept : IsKept scripts p) (s : ℕ) (t 
   is_busy there e = let block = some_of t.hand e in (block.0, block.1, hand_is there ∙ block.1)
 
   -- its statement in hand is the one of its block
-  pub statement_there : slice_get p.sessions s ≡ Some t → is_some t.hand ≡ true → in_hand scripts (past_of p.journal) s ≡ statement_of scripts t.hand 0
+  pub statement_there : slice_get p.sessions s ≡ Some t → is_some t.hand ≡ true → in_hand terms (past_of p.journal) s ≡ statement_of terms t.hand 0
   statement_there there e =
       let block = some_of t.hand e in
       let none_done : dones (past_of p.journal) s ≡ 0 = ((kept.mirrors s t there).underway block.0 block.1).none_done in
@@ -72,39 +72,40 @@ module _ (scripts : Scripts) (p : Parts) (kept : IsKept scripts p) (s : ℕ) (t 
   pub goes : slice_get p.sessions s ≡ Some t → is_some t.hand ≡ true → is_held_up p.sessions t.wants ≡ false → can_go_on (past_of p.journal) s ≡ true
   goes there busy free =
       let block = is_busy there busy in
-      let unblocked : is_blocked (past_of p.journal) s ≡ false = sym (held_up_is scripts p kept s t there) ∙ free in
+      let unblocked : is_blocked (past_of p.journal) s ≡ false = sym (held_up_is terms p kept s t there) ∙ free in
       rw (block.2, unblocked) refl
 
   -- a turn waits
-  pub waits_by : slice_get p.sessions s ≡ Some t → is_some t.hand ≡ true → is_held_up p.sessions t.wants ≡ true → IsWaitingTurn (record { scripts = scripts; past = past_of p.journal }) (record { scripts = scripts; past = past_of p.journal }) s
+  pub waits_by : slice_get p.sessions s ≡ Some t → is_some t.hand ≡ true → is_held_up p.sessions t.wants ≡ true → IsWaitingTurn (record { terms = terms; past = past_of p.journal }) (record { terms = terms; past = past_of p.journal }) s
   waits_by there busy up =
       let block = is_busy there busy in
-      record { same = refl; in_step = rw block.2 refl; blocked = sym (held_up_is scripts p kept s t there) ∙ up }
+      record { same = refl; in_step = rw block.2 refl; blocked = sym (held_up_is terms p kept s t there) ∙ up }
 
 -- ---- the first moment
 
-pub open_keeps : (scripts : Scripts) (p : Parts) → p.journal.entries ≡ [] → p.journal.room ≡ scripts.sessions → p.sessions ≡ replicate scripts.sessions idle_session → p.tables ≡ [] → p.locks ≡ record { sessions = scripts.sessions; locks = record { held = []; waiting = []; granted = [] } } → p.committed ≡ [] → AreSingle scripts → IsKept scripts p
-open_keeps scripts p none room idle tables locks committed single =
+pub open_keeps : (terms : Terms) (p : Parts) → p.journal.entries ≡ [] → p.journal.room ≡ terms.scripts.sessions → p.sessions ≡ replicate terms.scripts.sessions idle_session → p.tables ≡ [] → p.locks ≡ record { sessions = terms.scripts.sessions; locks = record { held = []; waiting = []; granted = [] } } → p.committed ≡ [] → p.weight ≡ 0 → AreSingle terms.scripts → IsKept terms p
+open_keeps terms p none room idle tables locks committed weighs single =
     let past : past_of p.journal ≡ [] = rw none refl in
     record {
       sound = record {
         legal = rw past tt;
-        count = rw idle (length_replicate scripts.sessions);
+        count = rw idle (length_replicate terms.scripts.sessions);
         beyond = λ r le. rw past refl;
         stored = rw (past, tables) refl;
         tells = rw (past, committed) tells_none;
         marked = λ r x t is has.
-            let first : t ≡ idle_session = got_idle scripts.sessions r t (rw idle at is) in
+            let first : t ≡ idle_session = got_idle terms.scripts.sessions r t (rw idle at is) in
             absurd (let wrong : ◌≡◌ {A = Option ℕ} None (Some x) = rw first at has in cc);
         table_count = rw locks refl;
         tied = rw (past, locks) (record { waits = refl; holds = λ test. refl; apart = tt });
         queues = rw locks tt;
-        reserved = rw (idle, locks, light_idle scripts.sessions) (omega (arith, room));
+        weighed = rw past weighs;
+        reserved = rw (idle, locks, light_idle terms.scripts.sessions) (omega (arith, room));
         single = single;
       };
       wants_so = λ c there. absurd (let wrong : false ≡ true = rw past at there in cc);
       mirrors = λ r t is.
-          let first : t ≡ idle_session = got_idle scripts.sessions r t (rw idle at is) in
+          let first : t ≡ idle_session = got_idle terms.scripts.sessions r t (rw idle at is) in
           rw (past, first) (record { outline = record { hand_is = refl; xact_is = refl; block_is = refl; closed_is = refl; wants_is = refl }; underway = λ block e. absurd cc });
       clear = rw past (record { owed_is = refl; settled = refl });
     } where
@@ -114,8 +115,8 @@ open_keeps scripts p none room idle tables locks committed single =
 
 -- ---- a call for which there was no memory
 
-pub same_keeps : (scripts : Scripts) (p q : Parts) → IsSame p q → IsKept scripts p → IsKept scripts q
-same_keeps scripts p q same kept =
+pub same_keeps : (terms : Terms) (p q : Parts) → IsSame p q → IsKept terms p → IsKept terms q
+same_keeps terms p q same kept =
     let sound = kept.sound in
     record {
       sound = record {
@@ -128,6 +129,7 @@ same_keeps scripts p q same kept =
         table_count = rw same.locks sound.table_count;
         tied = rw (same.journal, same.locks) sound.tied;
         queues = rw same.locks sound.queues;
+        weighed = rw (same.journal, same.weight) sound.weighed;
         reserved = rw (same.sessions, same.locks) (omega (arith, sound.reserved, same.room));
         single = sound.single;
       };
@@ -144,29 +146,29 @@ single_at sessions (c ∷ blocks) zero b all is = let e : c ≡ b = cc in subst 
 single_at sessions (c ∷ blocks) (suc block) b all is = single_at sessions blocks block b all.1 is
 
 -- a block that is given has its one statement
-has_its_one : (scripts : Scripts) (s block : ℕ) → AreSingle scripts → option_map (λ (b : ScriptBlock). b.session) (slice_get scripts.blocks block) ≡ Some s → IsSome (statement_of scripts (Some block) 0) × (statement_of scripts (Some block) 1 ≡ None)
-has_its_one scripts s block single of_session = by_block (slice_get scripts.blocks block) refl of_session where
-  by_block : (o : Option ScriptBlock) → slice_get scripts.blocks block ≡ o → option_map (λ (b : ScriptBlock). b.session) o ≡ Some s → IsSome (statement_of scripts (Some block) 0) × (statement_of scripts (Some block) 1 ≡ None)
+has_its_one : (terms : Terms) (s block : ℕ) → AreSingle terms.scripts → option_map (λ (b : ScriptBlock). b.session) (slice_get terms.scripts.blocks block) ≡ Some s → IsSome (statement_of terms (Some block) 0) × (statement_of terms (Some block) 1 ≡ None)
+has_its_one terms s block single of_session = by_block (slice_get terms.scripts.blocks block) refl of_session where
+  by_block : (o : Option ScriptBlock) → slice_get terms.scripts.blocks block ≡ o → option_map (λ (b : ScriptBlock). b.session) o ≡ Some s → IsSome (statement_of terms (Some block) 0) × (statement_of terms (Some block) 1 ≡ None)
   by_block None is e = absurd cc
-  by_block (Some b) is e = let one = single_at scripts.sessions scripts.blocks block b single is in (rw is one.has_one, rw is one.has_no_more)
+  by_block (Some b) is e = let one = single_at terms.scripts.sessions terms.scripts.blocks block b single is in (rw is one.has_one, rw is one.has_no_more)
 
 -- five light entries at most are reserved for a step
 step_light : (o : Option ℕ) → of_step o ≤ 5
 step_light None = omega arith
 step_light (Some x) = omega arith
 
-pub give_keeps : (scripts : Scripts) (p : Parts) (new : Kept) (s block : ℕ) (t : Session) → IsKept scripts p → slice_get p.sessions s ≡ Some t → t.hand ≡ None → s < scripts.sessions → option_map (λ (b : ScriptBlock). b.session) (slice_get scripts.blocks block) ≡ Some s → closed (past_of p.journal) s ≡ false → past_of new ≡ Give s block ∷ past_of p.journal → new.room ≡ p.journal.room + 5
-    → IsKept scripts (record p { journal = new; sessions = slice_set p.sessions s (record t { hand = Some block; looked = false; wants = None }) })
-give_keeps scripts p new s block t kept there none known of_session open_so is room =
+pub give_keeps : (terms : Terms) (p : Parts) (new : Kept) (s block : ℕ) (t : Session) → IsKept terms p → slice_get p.sessions s ≡ Some t → t.hand ≡ None → s < terms.scripts.sessions → option_map (λ (b : ScriptBlock). b.session) (slice_get terms.scripts.blocks block) ≡ Some s → closed (past_of p.journal) s ≡ false → past_of new ≡ Give s block ∷ past_of p.journal → new.room ≡ p.journal.room + 5
+    → IsKept terms (record p { journal = new; sessions = slice_set p.sessions s (record t { hand = Some block; looked = false; wants = None }) })
+give_keeps terms p new s block t kept there none known of_session open_so is room =
     let past : Past = past_of p.journal in
     let sound = kept.sound in
     let outline = (kept.mirrors s t there).outline in
     let idle : hand (past_of p.journal) s ≡ None = outline.hand_is ∙ none in
-    let comes = comes_give scripts (past_of p.journal) s (doing (past_of p.journal) s) sound.legal refl kept.clear.settled block known of_session open_so idle kept.clear.owed_is in
-    let others : (r : ℕ) → (s == r) ≡ false → doing (Give s block ∷ past_of p.journal) r ≡ doing (past_of p.journal) r = λ r other. others_stay scripts (past_of p.journal) s r sound.legal other (Give s block) refl in
+    let comes = comes_give terms (past_of p.journal) s (doing (past_of p.journal) s) sound.legal refl kept.clear.settled block known of_session open_so idle kept.clear.owed_is in
+    let others : (r : ℕ) → (s == r) ≡ false → doing (Give s block ∷ past_of p.journal) r ≡ doing (past_of p.journal) r = λ r other. others_stay terms (past_of p.journal) s r sound.legal other (Give s block) refl in
     let u : Session = record t { hand = Some block; looked = false; wants = None } in
     let was : light_of t + of_step t.xact ≡ light_of (record t { hand = Some block; looked = false; wants = None }) = rw none (omega arith) in
-    let one = has_its_one scripts s block sound.single of_session in
+    let one = has_its_one terms s block sound.single of_session in
     record {
       sound = record {
         legal = rw is (comes, sound.legal);
@@ -181,11 +183,12 @@ give_keeps scripts p new s block t kept there none known of_session open_so is r
         table_count = sound.table_count;
         tied = rw is (record { waits = sound.tied.waits; holds = sound.tied.holds; apart = sound.tied.apart });
         queues = sound.queues;
+        weighed = rw is sound.weighed;
         reserved = omega (arith, light_set p.sessions s t (record t { hand = Some block; looked = false; wants = None }) there, was, step_light t.xact, room, sound.reserved);
         single = sound.single;
       };
-      wants_so = rw is (λ c waits. let other : (s == c.session) ≡ false = idle_asks scripts (past_of p.journal) s sound.legal kept.wants_so idle c waits in rw other (kept.wants_so c waits));
-      mirrors = rw is (mirrors_set scripts (past_of p.journal) (Give s block ∷ past_of p.journal) p.sessions s _ (λ r u other at. kept.mirrors r u at) others
+      wants_so = rw is (λ c waits. let other : (s == c.session) ≡ false = idle_asks terms (past_of p.journal) s sound.legal kept.wants_so idle c waits in rw other (kept.wants_so c waits));
+      mirrors = rw is (mirrors_set terms (past_of p.journal) (Give s block ∷ past_of p.journal) p.sessions s _ (λ r u other at. kept.mirrors r u at) others
           (rw (own_moves (past_of p.journal) s (Give s block) refl) (record {
             outline = record { hand_is = refl; xact_is = outline.xact_is; block_is = outline.block_is; closed_is = outline.closed_is; wants_is = refl };
             underway = λ b e. let same : block ≡ b = cc in rw (← same) (record { none_done = refl; none_refused = refl; no_acts = refl; look_is = refl; only_creates = λ e. absurd cc; has_one = one.0; has_no_more = one.1 });
@@ -197,14 +200,14 @@ give_keeps scripts p new s block t kept there none known of_session open_so is r
 
 -- ---- a turn
 
-pub turn_went : (scripts : Scripts) (p : Parts) (after : Past) (s : ℕ) (t : Session) (refused : Bool) → IsKept scripts p → slice_get p.sessions s ≡ Some t → is_some t.hand ≡ true → is_held_up p.sessions t.wants ≡ false
-    → Went scripts s (past_of p.journal) after refused (driver (past_of p.journal)) (IsLeast (past_of p.journal) s)
-    → WentOn (record { scripts = scripts; past = past_of p.journal }) (record { scripts = scripts; past = after }) s (length (past_of p.journal)) (length after) refused
-turn_went scripts p after s t refused kept there busy free went =
-    let block = is_busy scripts p kept s t there busy in
+pub turn_went : (terms : Terms) (p : Parts) (after : Past) (s : ℕ) (t : Session) (refused : Bool) → IsKept terms p → slice_get p.sessions s ≡ Some t → is_some t.hand ≡ true → is_held_up p.sessions t.wants ≡ false
+    → Went terms s (past_of p.journal) after refused (driver (past_of p.journal)) (IsLeast (past_of p.journal) s)
+    → WentOn (record { terms = terms; past = past_of p.journal }) (record { terms = terms; past = after }) s (length (past_of p.journal)) (length after) refused
+turn_went terms p after s t refused kept there busy free went =
+    let block = is_busy terms p kept s t there busy in
     record {
       goes_on = record {
-        scripts = refl;
+        terms = refl;
         in_step = rw block.2 refl;
         extends = went.extends;
         own = went.own;
@@ -212,7 +215,7 @@ turn_went scripts p after s t refused kept there busy free went =
         closed_same = went.closed_same;
         failed = went.failed;
       };
-      not_blocked = sym (held_up_is scripts p kept s t there) ∙ free;
+      not_blocked = sym (held_up_is terms p kept s t there) ∙ free;
       refused_ends = went.refused_ends;
       from_is = refl;
       to_is = refl;
@@ -224,7 +227,7 @@ turn_went scripts p after s t refused kept there busy free went =
 
 -- ---- a step is cancelled
 
-module _ (scripts : Scripts) (p : Parts) (s block : ℕ) (t : Session) (kept : IsKept scripts p) (there : slice_get p.sessions s ≡ Some t) (busy : t.hand ≡ Some block) where
+module _ (terms : Terms) (p : Parts) (s block : ℕ) (t : Session) (kept : IsKept terms p) (there : slice_get p.sessions s ≡ Some t) (busy : t.hand ≡ Some block) where
   cancel_light : 4 ≤ light p.sessions
   cancel_light =
       let own : 4 ≤ of_xact t.xact + of_step t.xact = least t.xact in
@@ -239,13 +242,13 @@ module _ (scripts : Scripts) (p : Parts) (s block : ℕ) (t : Session) (kept : I
   cancel_may = omega (arith, cancel_light, kept.sound.reserved)
 
   module _ (new : Kept) (is : past_of new ≡ Cancel s ∷ past_of p.journal) where
-    pub cancel_amid : new.room + 1 ≡ p.journal.room → IsAmid scripts (record p { journal = new }) s 1
+    pub cancel_amid : new.room + 1 ≡ p.journal.room → IsAmid terms (record p { journal = new }) s 1
     cancel_amid room =
         let in_hand_so : hand (past_of p.journal) s ≡ Some block = (kept.mirrors s t there).outline.hand_is ∙ busy in
-        let comes = comes_cancel scripts (past_of p.journal) s (doing (past_of p.journal) s) kept.sound.legal refl kept.clear.settled block in_hand_so kept.clear.owed_is in
-        amid_notes scripts p (record p { journal = new }) s 0 t (Cancel s) (amid_begins scripts p s kept) there (still_cancel s) refl comes is room refl refl refl refl
+        let comes = comes_cancel terms (past_of p.journal) s (doing (past_of p.journal) s) kept.sound.legal refl kept.clear.settled block in_hand_so kept.clear.owed_is in
+        amid_notes terms p (record p { journal = new }) s 0 t (Cancel s) (amid_begins terms p s kept) there (still_cancel s) refl comes is room refl refl refl refl refl
 
-    pub cancel_refused : CanBeRefused scripts (past_of new) s t (causes.Cancelled (length (past_of p.journal)))
+    pub cancel_refused : CanBeRefused terms (past_of new) s t (causes.Cancelled (length (past_of p.journal)))
     cancel_refused =
         let outline = (kept.mirrors s t there).outline in
         rw is (record {
@@ -260,15 +263,15 @@ module _ (scripts : Scripts) (p : Parts) (s block : ℕ) (t : Session) (kept : I
         })
 
     module _ (after : Past) (exact : IsRefused (past_of new) after s t.xact (causes.Cancelled (length (past_of p.journal))))
-        (went : Went scripts s (past_of new) after true (driver (past_of new)) (IsTurn (owed scripts (past_of new)) (past_of new) s)) where
-      pub cancel_went : IsCancelled (record { scripts = scripts; past = past_of p.journal }) (record { scripts = scripts; past = after }) s
+        (went : Went terms s (past_of new) after true (driver (past_of new)) (IsTurn (owed terms (past_of new)) (past_of new) s)) where
+      pub cancel_went : IsCancelled (record { terms = terms; past = past_of p.journal }) (record { terms = terms; past = after }) s
       cancel_went =
           let in_hand_so : hand (past_of p.journal) s ≡ Some block = (kept.mirrors s t there).outline.hand_is ∙ busy in
           let did = rw is at went in
           let ends = rw is at exact in
           record {
             goes_on = record {
-              scripts = refl;
+              terms = refl;
               in_step = rw in_hand_so refl;
               extends = extends_on s (past_of p.journal) (Cancel s ∷ past_of p.journal) after (extends_by s (past_of p.journal) (Cancel s) (inl refl)) did.extends;
               own = did.own;
@@ -286,7 +289,7 @@ module _ (scripts : Scripts) (p : Parts) (s block : ℕ) (t : Session) (kept : I
 
 -- ---- a session is closed
 
-module _ (scripts : Scripts) (p : Parts) (s : ℕ) (t : Session) (kept : IsKept scripts p) (there : slice_get p.sessions s ≡ Some t) (idle : hand (past_of p.journal) s ≡ None) (open_so : closed (past_of p.journal) s ≡ false) where
+module _ (terms : Terms) (p : Parts) (s : ℕ) (t : Session) (kept : IsKept terms p) (there : slice_get p.sessions s ≡ Some t) (idle : hand (past_of p.journal) s ≡ None) (open_so : closed (past_of p.journal) s ≡ false) where
   none_in_hand : t.hand ≡ None
   none_in_hand = sym (kept.mirrors s t there).outline.hand_is ∙ idle
 
@@ -300,14 +303,14 @@ module _ (scripts : Scripts) (p : Parts) (s : ℕ) (t : Session) (kept : IsKept 
   abort_may = omega (arith, idle_light, light_at p.sessions s t there, kept.sound.reserved)
 
   -- it has none open
-  pub left_none : t.xact ≡ None → HasLeft scripts p p s t
+  pub left_none : t.xact ≡ None → HasLeft terms p p s t
   left_none none =
       let was = (kept.mirrors s t there).outline in
       record {
         after = t;
         there = there;
         light_is = idle_light;
-        amid = rw none (amid_begins scripts p s kept);
+        amid = rw none (amid_begins terms p s kept);
         settled = kept.clear.settled;
         follows = rw kept.clear.owed_is tt;
         is_aborted = rw none (record { grants = []; are_grants = tt; is = refl; none_open = λ e. refl });
@@ -322,28 +325,28 @@ module _ (scripts : Scripts) (p : Parts) (s : ℕ) (t : Session) (kept : IsKept 
       }
 
   -- its transaction is aborted
-  module _ (q : Parts) (x : ℕ) (own : t.xact ≡ Some x) (hands_on : HandsOn (released p.locks.locks s) q.locks.locks) (room : q.journal.room + length q.locks.locks.granted + 1 ≡ p.journal.room) (woke : q.sessions ≡ woken q.locks.locks.granted p.sessions) (tables_same : q.tables ≡ p.tables) (count_same : q.locks.sessions ≡ p.locks.sessions) (settled : IsSettled q.locks.locks) (noted : past_of q.journal ≡ locked_by (xact_in p.sessions) q.locks.locks.granted (Abort x ∷ past_of p.journal)) (marked : q.committed ≡ p.committed) where
+  module _ (q : Parts) (x : ℕ) (own : t.xact ≡ Some x) (hands_on : HandsOn (released p.locks.locks s) q.locks.locks) (room : q.journal.room + length q.locks.locks.granted + 1 ≡ p.journal.room) (woke : q.sessions ≡ woken q.locks.locks.granted p.sessions) (tables_same : q.tables ≡ p.tables) (count_same : q.locks.sessions ≡ p.locks.sessions) (settled : IsSettled q.locks.locks) (noted : past_of q.journal ≡ locked_by (xact_in p.sessions) q.locks.locks.granted (Abort x ∷ past_of p.journal)) (marked : q.committed ≡ p.committed) (weight_same : q.weight ≡ p.weight) where
     abbrev old : Past
     old = past_of p.journal
 
     by_own : IsXact old s x
     by_own =
         let open_xact : xact_of old s ≡ Some x = (kept.mirrors s t there).outline.xact_is ∙ own in
-        record { session = (xact_is scripts old s x kept.sound.legal open_xact).own; open_xact = open_xact }
+        record { session = (xact_is terms old s x kept.sound.legal open_xact).own; open_xact = open_xact }
 
-    aborts : MayCome scripts old (Abort x)
-    aborts = comes_abort scripts old s (doing old s) kept.sound.legal refl kept.clear.settled x by_own (inl (inr idle)) (rw kept.clear.owed_is tt)
+    aborts : MayCome terms old (Abort x)
+    aborts = comes_abort terms old s (doing old s) kept.sound.legal refl kept.clear.settled x by_own (inl (inr idle)) (rw kept.clear.owed_is tt)
 
-    come : HaveCome scripts (xact_in p.sessions) q.locks.locks.granted (Abort x ∷ old) q.locks.locks
-    come = abort_comes scripts p q s 0 x t (amid_begins scripts p s kept) there by_own hands_on aborts
+    come : HaveCome terms (xact_in p.sessions) q.locks.locks.granted (Abort x ∷ old) q.locks.locks
+    come = abort_comes terms p q s 0 x t (amid_begins terms p s kept) there by_own hands_on aborts
 
-    leaves : LeavesSo scripts (Abort x ∷ old) (locked_by (xact_in p.sessions) q.locks.locks.granted (Abort x ∷ old))
-    leaves = leaves_so scripts (xact_in p.sessions) q.locks.locks.granted (Abort x ∷ old)
+    leaves : LeavesSo terms (Abort x ∷ old) (locked_by (xact_in p.sessions) q.locks.locks.granted (Abort x ∷ old))
+    leaves = leaves_so terms (xact_in p.sessions) q.locks.locks.granted (Abort x ∷ old)
 
-    amid_then : IsAmid scripts q s (0 + 1)
-    amid_then = amid_aborts scripts p q s 0 x t (amid_begins scripts p s kept) there by_own hands_on room woke tables_same count_same settled aborts noted marked
+    amid_then : IsAmid terms q s (0 + 1)
+    amid_then = amid_aborts terms p q s 0 x t (amid_begins terms p s kept) there by_own hands_on room woke tables_same count_same settled weight_same aborts noted marked
 
-    pub left_some : HasLeft scripts p q s t
+    pub left_some : HasLeft terms p q s t
     left_some =
         let gone : xact_of (Abort x ∷ old) s ≡ None = rw (by_own.open_xact, if_same x) refl in
         record {
@@ -351,20 +354,20 @@ module _ (scripts : Scripts) (p : Parts) (s : ℕ) (t : Session) (kept : IsKept 
           there = rw woke (woken_get q.locks.locks.granted p.sessions s ∙ rw there refl);
           light_is = idle_light;
           amid = rw own amid_then;
-          settled = rw noted (settled_then scripts (Abort x ∷ old) (xact_in p.sessions) q.locks.locks come settled);
+          settled = rw noted (settled_then terms (Abort x ∷ old) (xact_in p.sessions) q.locks.locks come settled);
           follows = rw (noted, leaves.owes, by_own.session, idle) refl;
           is_aborted = rw own (record { grants = locks_of (xact_in p.sessions) q.locks.locks.granted; are_grants = come.are_grants; is = noted ∙ locked_is (xact_in p.sessions) q.locks.locks.granted (Abort x ∷ old); none_open = λ e. absurd cc });
           none_open = rw noted (leaves.xacts s ∙ gone);
           block_is = rw noted (leaves.blocks s ∙ (kept.mirrors s t there).outline.block_is);
-          extends = extends_on s old (Abort x ∷ old) (past_of q.journal) (extends_by s old (Abort x) (inl by_own.session)) (rw noted (extends_granted scripts s (Abort x ∷ old) (xact_in p.sessions) q.locks.locks come));
+          extends = extends_on s old (Abort x ∷ old) (past_of q.journal) (extends_by s old (Abort x) (inl by_own.session)) (rw noted (extends_granted terms s (Abort x ∷ old) (xact_in p.sessions) q.locks.locks come));
           hands = λ r. rw noted (leaves.hands r);
           closed_same = λ r. rw noted (leaves.closed_same r);
           driven_so = rw noted leaves.driven_so;
           failed = λ spec. rw noted (leaves.failed spec);
-          in_turn = λ driven. rw noted (driven_then scripts (Abort x ∷ old) (xact_in p.sessions) q.locks.locks come (rw (by_own.session, idle) tt, driven));
+          in_turn = λ driven. rw noted (driven_then terms (Abort x ∷ old) (xact_in p.sessions) q.locks.locks come (rw (by_own.session, idle) tt, driven));
         }
 
-  module _ (q : Parts) (left : HasLeft scripts p q s t) where
+  module _ (q : Parts) (left : HasLeft terms p q s t) where
     -- the Close has its place
     pub close_may : 0 < q.journal.room
     close_may = omega (arith, left.light_is, light_at q.sessions s left.after left.there, left.amid.sound.reserved)
@@ -383,27 +386,27 @@ module _ (scripts : Scripts) (p : Parts) (s : ℕ) (t : Session) (kept : IsKept 
       by_want : (o : Option Want) → wanted_by (past_of p.journal) s ≡ o → o ≡ None
       by_want None is = refl
       by_want (Some want) is =
-          let busy : is_some (hand (past_of p.journal) s) ≡ true = wanting_busy scripts (past_of p.journal) s want kept.sound.legal is in
+          let busy : is_some (hand (past_of p.journal) s) ≡ true = wanting_busy terms (past_of p.journal) s want kept.sound.legal is in
           absurd (let wrong : false ≡ true = rw idle at busy in cc)
 
-    closes : s < scripts.sessions → MayCome scripts last (Close s)
-    closes known = comes_close scripts last s (doing last s) left.amid.sound.legal refl left.settled known (left.hands s ∙ idle) (left.closed_same s ∙ open_so) left.none_open left.follows
+    closes : s < terms.scripts.sessions → MayCome terms last (Close s)
+    closes known = comes_close terms last s (doing last s) left.amid.sound.legal refl left.settled known (left.hands s ∙ idle) (left.closed_same s ∙ open_so) left.none_open left.follows
 
-    shut_so : IsMirror scripts (doing (Close s ∷ last) s) shut
+    shut_so : IsMirror terms (doing (Close s ∷ last) s) shut
     shut_so = rw (own_moves last s (Close s) refl) (record {
       outline = record { hand_is = left.hands s ∙ (kept.mirrors s t there).outline.hand_is; xact_is = left.none_open; block_is = left.block_is; closed_is = refl; wants_is = sym wants_none };
       underway = λ block is. absurd (let wrong : ◌≡◌ {A = Option ℕ} None (Some block) = sym none_in_hand ∙ is in cc);
     })
 
-    pub close_keeps : (new : Kept) → s < scripts.sessions → past_of new ≡ Close s ∷ past_of q.journal → new.room + 1 ≡ q.journal.room → IsKept scripts (record q { journal = new; sessions = slice_set q.sessions s (record t { xact = None; closed = true }) })
+    pub close_keeps : (new : Kept) → s < terms.scripts.sessions → past_of new ≡ Close s ∷ past_of q.journal → new.room + 1 ≡ q.journal.room → IsKept terms (record q { journal = new; sessions = slice_set q.sessions s (record t { xact = None; closed = true }) })
     close_keeps new known noted room =
         let fits : light_of (record t { xact = None; closed = true }) + of_xact t.xact + 1 ≤ light_of left.after = rw none_in_hand (omega (arith, left.light_is)) in
-        amid_stops scripts q (record q { journal = new; sessions = slice_set q.sessions s (record t { xact = None; closed = true }) }) s (of_xact t.xact) left.after shut (Close s) left.amid left.there (still_close s) refl (closes known)
-        (unasked_idle scripts last s left.amid.sound.legal left.none_open) left.settled refl shut_so (λ x e. absurd cc) fits noted room refl refl refl refl
+        amid_stops terms q (record q { journal = new; sessions = slice_set q.sessions s (record t { xact = None; closed = true }) }) s (of_xact t.xact) left.after shut (Close s) left.amid left.there (still_close s) refl (closes known)
+        (unasked_idle terms last s left.amid.sound.legal left.none_open) left.settled refl shut_so (λ x e. absurd cc) fits noted room refl refl refl refl refl
 
-    pub close_went : (new : Past) → new ≡ Close s ∷ past_of q.journal → IsClosed (record { scripts = scripts; past = past_of p.journal }) (record { scripts = scripts; past = new }) s
+    pub close_went : (new : Past) → new ≡ Close s ∷ past_of q.journal → IsClosed (record { terms = terms; past = past_of p.journal }) (record { terms = terms; past = new }) s
     close_went new noted = rw noted (record {
-      scripts = refl;
+      terms = refl;
       aborted = last;
       is_aborted = rw (kept.mirrors s t there).outline.xact_is left.is_aborted;
       is = refl;

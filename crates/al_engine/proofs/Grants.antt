@@ -11,13 +11,14 @@ use Rattle.al_queue.specs.Walk.{released}
 use Rattle.al_queue.specs.Settled.{IsNext, Come, AscendsFrom, HandsOn, IsSettled}
 use Rattle.al_history.specs.declared.entry.Want.{Want}
 use Rattle.al_history.specs.declared.entry.Entry.TheVariants.{Commit, Abort}
-use Rattle.al_history.specs.declared.statement.Scripts.{Scripts}
+use Rattle.al_history.specs.declared.statement.Terms.{Terms}
 use Rattle.al_history.specs.Past.{Past}
 use Rattle.al_history.specs.Hand.{xact_of, session_of}
 use Rattle.al_history.specs.Locks.{Claim, same_claim, without, held, waiting, in_way, ahead, is_settled, is_held, is_grant, grantable as can_be_granted}
 use Rattle.al_history.specs.Rules.{Ascends}
 use Rattle.al_history.specs.Waits.{wanted_by}
 use Rattle.al_history.specs.Legal.{MayCome, Legal}
+use Rattle.al_history.specs.Weight.{weight}
 use Rattle.al_history.specs.Whole.{Driven}
 use Rattle.al_history.proofs.Claims.{claim_itself, held_left, waiting_open}
 use Rattle.al_history.proofs.Sole.{grant_alone}
@@ -25,7 +26,7 @@ use Rattle.al_history.proofs.Xacts.{xact_is, turn}
 use Rattle.al_engine.specs.Ran.{AreGrants}
 use Rattle.al_engine.specs.LockTie.{grant_of, asks, AreApart, IsTied, Knows, lock_by, locked_by, locks_of, is_granted}
 use Rattle.al_engine.proofs.Ties.{any_held, asks_append, without_none, apart_left, holds_push, ahead_of_it, settled_tied, tie_released}
-use Rattle.al_engine.proofs.LockLists.{locked_is, grants_push, driven_grants}
+use Rattle.al_engine.proofs.LockLists.{locked_is, grants_push, driven_grants, weight_grants}
 
 -- ---- the next lock
 
@@ -66,7 +67,7 @@ left_apart (d ∷ claims) later c apart =
     let own = or_parts (c.session == d.session) (asks d.session later) parts.1 in
     rw (turn c.session d.session own.0, left_apart claims later c apart.1) refl
 
-module _ (scripts : Scripts) (past : Past) (locks : Locks) (xact : ℕ → ℕ) (g : Grant) (legal : Legal scripts past) (tied : IsTied past locks) (next : IsNext locks.held locks.waiting g) (knows : Knows past xact) where
+module _ (terms : Terms) (past : Past) (locks : Locks) (xact : ℕ → ℕ) (g : Grant) (legal : Legal terms past) (tied : IsTied past locks) (next : IsNext locks.held locks.waiting g) (knows : Knows past xact) where
   split : waiting past ≡ map claim_of next.ahead ++ claim_of g ∷ map claim_of next.behind
   split = sym (claims_again (waiting past)) ∙ (ap (λ (grants : List Grant). map claim_of grants) (sym tied.waits ∙ next.waits) ∙ claims_append next.ahead (g ∷ next.behind))
 
@@ -80,7 +81,7 @@ module _ (scripts : Scripts) (past : Past) (locks : Locks) (xact : ℕ → ℕ) 
   open_so = knows (claim_of g) there
 
   own : session_of past (xact g.session) ≡ g.session
-  own = (xact_is scripts past g.session (xact g.session) legal open_so).own
+  own = (xact_is terms past g.session (xact g.session) legal open_so).own
 
   can : can_be_granted past (claim_of g) ≡ true
   can =
@@ -93,7 +94,7 @@ module _ (scripts : Scripts) (past : Past) (locks : Locks) (xact : ℕ → ℕ) 
   is_its : is_grant past (lock_by xact g) ≡ true
   is_its = rw own there
 
-  comes : Ascends past g.table → MayCome scripts past (lock_by xact g)
+  comes : Ascends past g.table → MayCome terms past (lock_by xact g)
   comes ascends = record {
     rule = record { open_xact = rw own open_so; can_be = rw own can; asked = inl (record { waits = is_its; ascends = ascends }) };
     settled = rw is_its tt;
@@ -124,8 +125,8 @@ module _ (scripts : Scripts) (past : Past) (locks : Locks) (xact : ℕ → ℕ) 
 -- ---- all of them
 
 -- the locks that were granted have come
-pub record HaveCome (scripts : Scripts) (xact : ℕ → ℕ) (grants : List Grant) (past : Past) (locks : Locks) : Type 0 where
-  pub legal : Legal scripts (locked_by xact grants past)
+pub record HaveCome (terms : Terms) (xact : ℕ → ℕ) (grants : List Grant) (past : Past) (locks : Locks) : Type 0 where
+  pub legal : Legal terms (locked_by xact grants past)
   pub tied : IsTied (locked_by xact grants past) locks
   pub are_grants : AreGrants (locks_of xact grants) past
   pub wants : (r : ℕ) → wanted_by (locked_by xact grants past) r ≡ cond (is_granted r grants) None (wanted_by past r)
@@ -136,35 +137,35 @@ wants_both true true o = refl
 wants_both true false o = refl
 wants_both false b o = refl
 
-come_all : (scripts : Scripts) (past : Past) (xact : ℕ → ℕ) (least : ℕ) (locks : Locks) (grants rest : List Grant) → Legal scripts past → IsTied past locks → Come locks.held locks.waiting grants rest → Knows past xact
+come_all : (terms : Terms) (past : Past) (xact : ℕ → ℕ) (least : ℕ) (locks : Locks) (grants rest : List Grant) → Legal terms past → IsTied past locks → Come locks.held locks.waiting grants rest → Knows past xact
     → ((table : ℕ) → least ≤ table → Ascends past table) → AscendsFrom least grants
-    → HaveCome scripts xact grants past (record { held = locks.held ++ grants; waiting = rest; granted = locks.granted })
-come_all scripts past xact least locks [] rest legal tied come knows ascends sorted = record {
+    → HaveCome terms xact grants past (record { held = locks.held ++ grants; waiting = rest; granted = locks.granted })
+come_all terms past xact least locks [] rest legal tied come knows ascends sorted = record {
   legal = legal;
   tied = rw (append-nil locks.held, come) tied;
   are_grants = tt;
   wants = λ r. refl;
   still = λ c there. (there, refl);
 }
-come_all scripts past xact least locks (g ∷ grants) rest legal tied come knows ascends sorted =
+come_all terms past xact least locks (g ∷ grants) rest legal tied come knows ascends sorted =
     let next : IsNext locks.held locks.waiting g = come.0 in
-    let more : HaveCome scripts xact grants (lock_by xact g ∷ past) (record { held = (locks.held ++ g ∷ []) ++ grants; waiting = rest; granted = locks.granted }) =
-    come_all scripts (lock_by xact g ∷ past) xact g.table (record { held = locks.held ++ g ∷ []; waiting = next.ahead ++ next.behind; granted = locks.granted }) grants rest
-    (comes scripts past locks xact g legal tied next knows (ascends g.table sorted.0), legal) (still_tied scripts past locks xact g legal tied next knows) come.1 (still_knows scripts past locks xact g legal tied next knows) (λ table le. le) sorted.1 in
+    let more : HaveCome terms xact grants (lock_by xact g ∷ past) (record { held = (locks.held ++ g ∷ []) ++ grants; waiting = rest; granted = locks.granted }) =
+    come_all terms (lock_by xact g ∷ past) xact g.table (record { held = locks.held ++ g ∷ []; waiting = next.ahead ++ next.behind; granted = locks.granted }) grants rest
+    (comes terms past locks xact g legal tied next knows (ascends g.table sorted.0), legal) (still_tied terms past locks xact g legal tied next knows) come.1 (still_knows terms past locks xact g legal tied next knows) (λ table le. le) sorted.1 in
     record {
       legal = more.legal;
       tied = rw (append_assoc locks.held (g ∷ []) grants) at more.tied;
-      are_grants = grants_push (locks_of xact grants) (lock_by xact g) past more.are_grants (is_its scripts past locks xact g legal tied next knows);
-      wants = λ r. more.wants r ∙ (ap (λ (o : Option Want). cond (is_granted r grants) None o) (wants_no_more scripts past locks xact g legal tied next knows r) ∙ wants_both (g.session == r) (is_granted r grants) (wanted_by past r));
-      still = λ c there. waits_still scripts past locks xact g legal tied next knows c (is_granted c.session grants) (more.still c there);
+      are_grants = grants_push (locks_of xact grants) (lock_by xact g) past more.are_grants (is_its terms past locks xact g legal tied next knows);
+      wants = λ r. more.wants r ∙ (ap (λ (o : Option Want). cond (is_granted r grants) None o) (wants_no_more terms past locks xact g legal tied next knows r) ∙ wants_both (g.session == r) (is_granted r grants) (wanted_by past r));
+      still = λ c there. waits_still terms past locks xact g legal tied next knows c (is_granted c.session grants) (more.still c there);
     }
 
 -- the journal may go on by the locks that a walk has granted, and is tied to the locks after it
-pub grants_come : (scripts : Scripts) (past : Past) (xact : ℕ → ℕ) (locks after : Locks) → Legal scripts past → IsTied past locks → HandsOn locks after → Knows past xact → ((table : ℕ) → Ascends past table)
-    → HaveCome scripts xact after.granted past after
-grants_come scripts past xact locks after legal tied hands knows ascends =
-    let all : HaveCome scripts xact after.granted past (record { held = locks.held ++ after.granted; waiting = after.waiting; granted = locks.granted }) =
-    come_all scripts past xact 0 locks after.granted after.waiting legal tied hands.rightly knows (λ table le. ascends table) hands.ascends in
+pub grants_come : (terms : Terms) (past : Past) (xact : ℕ → ℕ) (locks after : Locks) → Legal terms past → IsTied past locks → HandsOn locks after → Knows past xact → ((table : ℕ) → Ascends past table)
+    → HaveCome terms xact after.granted past after
+grants_come terms past xact locks after legal tied hands knows ascends =
+    let all : HaveCome terms xact after.granted past (record { held = locks.held ++ after.granted; waiting = after.waiting; granted = locks.granted }) =
+    come_all terms past xact 0 locks after.granted after.waiting legal tied hands.rightly knows (λ table le. ascends table) hands.ascends in
     record {
       legal = all.legal;
       tied = record {
@@ -179,25 +180,28 @@ grants_come scripts past xact locks after legal tied hands knows ascends =
 
 -- ---- the end of a transaction
 
-pub commit_frees : (scripts : Scripts) (past : Past) (x : ℕ) (xact : ℕ → ℕ) (locks after : Locks) → Legal scripts (Commit x ∷ past) → IsTied past locks → HandsOn (released locks (session_of past x)) after → Knows (Commit x ∷ past) xact
-    → HaveCome scripts xact after.granted (Commit x ∷ past) after
-commit_frees scripts past x xact locks after legal tied hands knows =
-    grants_come scripts (Commit x ∷ past) xact (released locks (session_of past x)) after legal (tie_released past (Commit x ∷ past) locks (session_of past x) refl refl tied) hands knows (λ table. tt)
+pub commit_frees : (terms : Terms) (past : Past) (x : ℕ) (xact : ℕ → ℕ) (locks after : Locks) → Legal terms (Commit x ∷ past) → IsTied past locks → HandsOn (released locks (session_of past x)) after → Knows (Commit x ∷ past) xact
+    → HaveCome terms xact after.granted (Commit x ∷ past) after
+commit_frees terms past x xact locks after legal tied hands knows =
+    grants_come terms (Commit x ∷ past) xact (released locks (session_of past x)) after legal (tie_released past (Commit x ∷ past) locks (session_of past x) refl refl tied) hands knows (λ table. tt)
 
-pub abort_frees : (scripts : Scripts) (past : Past) (x : ℕ) (xact : ℕ → ℕ) (locks after : Locks) → Legal scripts (Abort x ∷ past) → IsTied past locks → HandsOn (released locks (session_of past x)) after → Knows (Abort x ∷ past) xact
-    → HaveCome scripts xact after.granted (Abort x ∷ past) after
-abort_frees scripts past x xact locks after legal tied hands knows =
-    grants_come scripts (Abort x ∷ past) xact (released locks (session_of past x)) after legal (tie_released past (Abort x ∷ past) locks (session_of past x) refl refl tied) hands knows (λ table. tt)
+pub abort_frees : (terms : Terms) (past : Past) (x : ℕ) (xact : ℕ → ℕ) (locks after : Locks) → Legal terms (Abort x ∷ past) → IsTied past locks → HandsOn (released locks (session_of past x)) after → Knows (Abort x ∷ past) xact
+    → HaveCome terms xact after.granted (Abort x ∷ past) after
+abort_frees terms past x xact locks after legal tied hands knows =
+    grants_come terms (Abort x ∷ past) xact (released locks (session_of past x)) after legal (tie_released past (Abort x ∷ past) locks (session_of past x) refl refl tied) hands knows (λ table. tt)
 
-pub settled_then : (scripts : Scripts) (past : Past) (xact : ℕ → ℕ) (after : Locks) → HaveCome scripts xact after.granted past after → IsSettled after → is_settled (locked_by xact after.granted past) ≡ true
-settled_then scripts past xact after all settled = settled_tied (locked_by xact after.granted past) after all.tied settled
+pub settled_then : (terms : Terms) (past : Past) (xact : ℕ → ℕ) (after : Locks) → HaveCome terms xact after.granted past after → IsSettled after → is_settled (locked_by xact after.granted past) ≡ true
+settled_then terms past xact after all settled = settled_tied (locked_by xact after.granted past) after all.tied settled
 
-pub driven_then : (scripts : Scripts) (past : Past) (xact : ℕ → ℕ) (after : Locks) → HaveCome scripts xact after.granted past after → Driven scripts past → Driven scripts (locked_by xact after.granted past)
-driven_then scripts past xact after all driven = rw (locked_is xact after.granted past) (driven_grants scripts (locks_of xact after.granted) past all.are_grants driven)
+pub driven_then : (terms : Terms) (past : Past) (xact : ℕ → ℕ) (after : Locks) → HaveCome terms xact after.granted past after → Driven terms past → Driven terms (locked_by xact after.granted past)
+driven_then terms past xact after all driven = rw (locked_is xact after.granted past) (driven_grants terms (locks_of xact after.granted) past all.are_grants driven)
+
+pub weight_granted : (terms : Terms) (xact : ℕ → ℕ) (past : Past) (after : Locks) → HaveCome terms xact after.granted past after → weight (locked_by xact after.granted past) ≡ weight past
+weight_granted terms xact past after all = ap weight (locked_is xact after.granted past) ∙ weight_grants (locks_of xact after.granted) past all.are_grants
 
 -- the open transactions of the sessions are known where each session's is looked up
-pub knows_open : (scripts : Scripts) (past : Past) (xact : ℕ → ℕ) → Legal scripts past → ((s x : ℕ) → xact_of past s ≡ Some x → xact s ≡ x) → Knows past xact
-knows_open scripts past xact legal same c there = by_case (xact_of past c.session) refl (waiting_open scripts past legal c there) where
+pub knows_open : (terms : Terms) (past : Past) (xact : ℕ → ℕ) → Legal terms past → ((s x : ℕ) → xact_of past s ≡ Some x → xact s ≡ x) → Knows past xact
+knows_open terms past xact legal same c there = by_case (xact_of past c.session) refl (waiting_open terms past legal c there) where
   by_case : (o : Option ℕ) → xact_of past c.session ≡ o → IsSome o → xact_of past c.session ≡ Some (xact c.session)
   by_case None is some = absurd cc
   by_case (Some x) is some = is ∙ ap (λ (y : ℕ). Some y) (sym (same c.session x is))

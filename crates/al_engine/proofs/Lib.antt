@@ -2,6 +2,7 @@ pub mod ActLemmas
 pub mod Amid
 pub mod AskLemmas
 pub mod BlockLemmas
+pub mod CountLemmas
 pub mod CreateLemmas
 pub mod DoneLemmas
 pub mod EngineLemmas

@@ -5,7 +5,7 @@ use Rattle.al_queue.specs.declared.grant.Grant.{Grant}
 use Rattle.al_history.specs.declared.entry.Entry.{Entry}
 use Rattle.al_history.specs.declared.entry.Entry.TheVariants.{Lock}
 use Rattle.al_history.specs.declared.spec.Spec.{Spec}
-use Rattle.al_history.specs.declared.statement.Scripts.{Scripts}
+use Rattle.al_history.specs.declared.statement.Terms.{Terms}
 use Rattle.al_history.specs.Past.{Past}
 use Rattle.al_history.specs.Fate.{Standing, fate}
 use Rattle.al_history.specs.Hand.{hand, dones, refused, xact_of, session_of, look_of, acts_of, block_state, closed}
@@ -16,6 +16,7 @@ use Rattle.al_history.specs.Store.{store}
 use Rattle.al_history.specs.Tail.{owed}
 use Rattle.al_history.specs.View.{view_by, latest, committed}
 use Rattle.al_history.specs.Legal.{MayCome, Legal}
+use Rattle.al_history.specs.Weight.{weight}
 use Rattle.al_history.specs.Whole.{driver, failed_setup, Driven}
 use Rattle.al_engine.specs.Ran.{AreGrants}
 use Rattle.al_engine.specs.LockTie.{lock_by, locked_by, locks_of}
@@ -32,10 +33,16 @@ grants_push (d ∷ entries) e past are own =
     (ap (λ (p : Past). is_grant p d) (append_assoc entries (e ∷ []) past) ∙ are.0, grants_push entries e past are.1 own)
 
 -- locks of requests that waited come whenever they can: they are nobody's turn
-pub driven_grants : (scripts : Scripts) (entries : List Entry) (past : Past) → AreGrants entries past → Driven scripts past → Driven scripts (entries ++ past)
-driven_grants scripts [] past are driven = driven
-driven_grants scripts (Lock x table mode ∷ entries) past are driven = (rw are.0 tt, driven_grants scripts entries past are.1 driven)
-driven_grants scripts (e ∷ entries) past are driven = absurd (let wrong : false ≡ true = are.0 in cc)
+pub driven_grants : (terms : Terms) (entries : List Entry) (past : Past) → AreGrants entries past → Driven terms past → Driven terms (entries ++ past)
+driven_grants terms [] past are driven = driven
+driven_grants terms (Lock x table mode ∷ entries) past are driven = (rw are.0 tt, driven_grants terms entries past are.1 driven)
+driven_grants terms (e ∷ entries) past are driven = absurd (let wrong : false ≡ true = are.0 in cc)
+
+-- they weigh nothing
+pub weight_grants : (entries : List Entry) (past : Past) → AreGrants entries past → weight (entries ++ past) ≡ weight past
+weight_grants [] past are = refl
+weight_grants (Lock x table mode ∷ entries) past are = rw are.0 (weight_grants entries past are.1)
+weight_grants (e ∷ entries) past are = absurd (let wrong : false ≡ true = are.0 in cc)
 
 -- and they may come in anybody's turn
 pub grants_of : (s : ℕ) (entries : List Entry) (past : Past) → AreGrants entries past → AreOf s entries past
@@ -50,22 +57,22 @@ locked_next xact [] past (suc i) g is = absurd cc
 locked_next xact (h ∷ grants) past zero g is = let same : h ≡ g = cc in rw same refl
 locked_next xact (h ∷ grants) past (suc i) g is = rw add-one (rw add-one at (locked_next xact grants (lock_by xact h ∷ past) i g is))
 
-legal_before : (scripts : Scripts) (xact : ℕ → ℕ) (grants : List Grant) (past : Past) → Legal scripts (locked_by xact grants past) → Legal scripts past
-legal_before scripts xact [] past legal = legal
-legal_before scripts xact (g ∷ grants) past legal = (legal_before scripts xact grants (lock_by xact g ∷ past) legal).1
+legal_before : (terms : Terms) (xact : ℕ → ℕ) (grants : List Grant) (past : Past) → Legal terms (locked_by xact grants past) → Legal terms past
+legal_before terms xact [] past legal = legal
+legal_before terms xact (g ∷ grants) past legal = (legal_before terms xact grants (lock_by xact g ∷ past) legal).1
 
-pub may_come_at : (scripts : Scripts) (xact : ℕ → ℕ) (grants : List Grant) (past : Past) (i : ℕ) (g : Grant) → slice_get grants i ≡ Some g
-    → Legal scripts (locked_by xact grants past) → MayCome scripts (locked_by xact (take i grants) past) (lock_by xact g)
-may_come_at scripts xact [] past zero g is legal = absurd cc
-may_come_at scripts xact [] past (suc i) g is legal = absurd cc
-may_come_at scripts xact (h ∷ grants) past zero g is legal =
+pub may_come_at : (terms : Terms) (xact : ℕ → ℕ) (grants : List Grant) (past : Past) (i : ℕ) (g : Grant) → slice_get grants i ≡ Some g
+    → Legal terms (locked_by xact grants past) → MayCome terms (locked_by xact (take i grants) past) (lock_by xact g)
+may_come_at terms xact [] past zero g is legal = absurd cc
+may_come_at terms xact [] past (suc i) g is legal = absurd cc
+may_come_at terms xact (h ∷ grants) past zero g is legal =
     let same : h ≡ g = cc in
-    rw (← same) (legal_before scripts xact grants (lock_by xact h ∷ past) legal).0
-may_come_at scripts xact (h ∷ grants) past (suc i) g is legal = may_come_at scripts xact grants (lock_by xact h ∷ past) i g is legal
+    rw (← same) (legal_before terms xact grants (lock_by xact h ∷ past) legal).0
+may_come_at terms xact (h ∷ grants) past (suc i) g is legal = may_come_at terms xact grants (lock_by xact h ∷ past) i g is legal
 
 -- ---- what locks leave as it was
 
-pub record LeavesSo (scripts : Scripts) (past after : Past) : Type 0 where
+pub record LeavesSo (terms : Terms) (past after : Past) : Type 0 where
   pub hands : (s : ℕ) → hand after s ≡ hand past s
   pub dones_same : (s : ℕ) → dones after s ≡ dones past s
   pub refused_same : (s : ℕ) → refused after s ≡ refused past s
@@ -77,16 +84,16 @@ pub record LeavesSo (scripts : Scripts) (past after : Past) : Type 0 where
   pub closed_same : (s : ℕ) → closed after s ≡ closed past s
   pub fates : (x : ℕ) → fate after x ≡ fate past x
   pub made : (name : List ℕ) → makers after name ≡ makers past name
-  pub owes : owed scripts after ≡ owed scripts past
+  pub owes : owed terms after ≡ owed terms past
   pub driven_so : driver after ≡ driver past
   pub failed : (spec : Spec) → failed_setup spec after ≡ failed_setup spec past
-  pub stored : store scripts after ≡ store scripts past
-  pub viewed : (stands : ℕ → Standing) → view_by scripts stands after ≡ view_by scripts stands past
-  pub latest_same : (x : ℕ) → latest scripts after x ≡ latest scripts past x
-  pub committed_same : committed scripts after ≡ committed scripts past
+  pub stored : store terms after ≡ store terms past
+  pub viewed : (stands : ℕ → Standing) → view_by terms stands after ≡ view_by terms stands past
+  pub latest_same : (x : ℕ) → latest terms after x ≡ latest terms past x
+  pub committed_same : committed terms after ≡ committed terms past
 
-pub leaves_so : (scripts : Scripts) (xact : ℕ → ℕ) (grants : List Grant) (past : Past) → LeavesSo scripts past (locked_by xact grants past)
-leaves_so scripts xact [] past = record {
+pub leaves_so : (terms : Terms) (xact : ℕ → ℕ) (grants : List Grant) (past : Past) → LeavesSo terms past (locked_by xact grants past)
+leaves_so terms xact [] past = record {
   hands = λ s. refl;
   dones_same = λ s. refl;
   refused_same = λ s. refl;
@@ -106,8 +113,8 @@ leaves_so scripts xact [] past = record {
   latest_same = λ x. refl;
   committed_same = refl;
 }
-leaves_so scripts xact (g ∷ grants) past =
-    let more : LeavesSo scripts (lock_by xact g ∷ past) (locked_by xact grants (lock_by xact g ∷ past)) = leaves_so scripts xact grants (lock_by xact g ∷ past) in
+leaves_so terms xact (g ∷ grants) past =
+    let more : LeavesSo terms (lock_by xact g ∷ past) (locked_by xact grants (lock_by xact g ∷ past)) = leaves_so terms xact grants (lock_by xact g ∷ past) in
     record {
       hands = more.hands;
       dones_same = more.dones_same;

@@ -8,7 +8,7 @@ use Rattle.al_history.specs.declared.entry.Want.{Want}
 use Rattle.al_history.specs.declared.entry.Want.TheVariants as wants
 use Rattle.al_history.specs.declared.statement.Statement.{Statement}
 use Rattle.al_history.specs.declared.statement.Statement.TheVariants as statements
-use Rattle.al_history.specs.declared.statement.Scripts.{Scripts}
+use Rattle.al_history.specs.declared.statement.Terms.{Terms}
 use Rattle.al_history.specs.Past.{Past, past_of}
 use Rattle.al_history.specs.Fate.{fate, is_that}
 use Rattle.al_history.specs.Hand.{hand, dones, in_hand, statement_of, xact_of, session_of, block_state}
@@ -85,45 +85,45 @@ past_end (t ∷ sessions) (suc s) is = omega (arith, past_end sessions s is)
 
 -- ---- who has a step in hand or a transaction is a session of the run
 
-pub hand_known : (scripts : Scripts) (past : Past) (s block : ℕ) → Legal scripts past → hand past s ≡ Some block → s < scripts.sessions
-hand_known scripts [] s block legal is = absurd cc
-hand_known scripts (Give r given ∷ past) s block legal is = by_test (r == s) refl is (λ h. hand_known scripts past s block legal.1 h) where
-  by_test : (b : Bool) → (r == s) ≡ b → cond b (Some given) (hand past s) ≡ Some block → (hand past s ≡ Some block → s < scripts.sessions) → s < scripts.sessions
+pub hand_known : (terms : Terms) (past : Past) (s block : ℕ) → Legal terms past → hand past s ≡ Some block → s < terms.scripts.sessions
+hand_known terms [] s block legal is = absurd cc
+hand_known terms (Give r given ∷ past) s block legal is = by_test (r == s) refl is (λ h. hand_known terms past s block legal.1 h) where
+  by_test : (b : Bool) → (r == s) ≡ b → cond b (Some given) (hand past s) ≡ Some block → (hand past s ≡ Some block → s < terms.scripts.sessions) → s < terms.scripts.sessions
   by_test true own is more = rw (← eqb-true r s own) legal.0.rule.known
   by_test false own is more = more is
-hand_known scripts (End r ∷ past) s block legal is = by_test (r == s) is (λ h. hand_known scripts past s block legal.1 h) where
-  by_test : (b : Bool) → cond b None (hand past s) ≡ Some block → (hand past s ≡ Some block → s < scripts.sessions) → s < scripts.sessions
+hand_known terms (End r ∷ past) s block legal is = by_test (r == s) is (λ h. hand_known terms past s block legal.1 h) where
+  by_test : (b : Bool) → cond b None (hand past s) ≡ Some block → (hand past s ≡ Some block → s < terms.scripts.sessions) → s < terms.scripts.sessions
   by_test true is more = absurd cc
   by_test false is more = more is
-hand_known scripts (e ∷ past) s block legal is = hand_known scripts past s block legal.1 is
+hand_known terms (e ∷ past) s block legal is = hand_known terms past s block legal.1 is
 
 -- a transaction began for a statement in hand
-begun_known : (scripts : Scripts) (past : Past) (r : ℕ) → Legal scripts past → option_map (starts (block_state past r)) (in_hand scripts past r) ≡ Some true → r < scripts.sessions
-begun_known scripts past r legal is = by_hand (hand past r) refl is where
-  by_hand : (o : Option ℕ) → hand past r ≡ o → option_map (starts (block_state past r)) (statement_of scripts o (dones past r)) ≡ Some true → r < scripts.sessions
+begun_known : (terms : Terms) (past : Past) (r : ℕ) → Legal terms past → option_map (starts (block_state past r)) (in_hand terms past r) ≡ Some true → r < terms.scripts.sessions
+begun_known terms past r legal is = by_hand (hand past r) refl is where
+  by_hand : (o : Option ℕ) → hand past r ≡ o → option_map (starts (block_state past r)) (statement_of terms o (dones past r)) ≡ Some true → r < terms.scripts.sessions
   by_hand None busy is = absurd cc
-  by_hand (Some block) busy is = hand_known scripts past r block legal busy
+  by_hand (Some block) busy is = hand_known terms past r block legal busy
 
-pub xact_known : (scripts : Scripts) (past : Past) (s x : ℕ) → Legal scripts past → xact_of past s ≡ Some x → s < scripts.sessions
-xact_known scripts [] s x legal is = absurd cc
-xact_known scripts (Start r level ∷ past) s x legal is = by_test (r == s) refl is (λ h. xact_known scripts past s x legal.1 h) where
-  by_test : (b : Bool) → (r == s) ≡ b → cond b (Some (length past)) (xact_of past s) ≡ Some x → (xact_of past s ≡ Some x → s < scripts.sessions) → s < scripts.sessions
-  by_test true own is more = rw (← eqb-true r s own) (begun_known scripts past r legal.1 legal.0.rule.statement)
+pub xact_known : (terms : Terms) (past : Past) (s x : ℕ) → Legal terms past → xact_of past s ≡ Some x → s < terms.scripts.sessions
+xact_known terms [] s x legal is = absurd cc
+xact_known terms (Start r level ∷ past) s x legal is = by_test (r == s) refl is (λ h. xact_known terms past s x legal.1 h) where
+  by_test : (b : Bool) → (r == s) ≡ b → cond b (Some (length past)) (xact_of past s) ≡ Some x → (xact_of past s ≡ Some x → s < terms.scripts.sessions) → s < terms.scripts.sessions
+  by_test true own is more = rw (← eqb-true r s own) (begun_known terms past r legal.1 legal.0.rule.statement)
   by_test false own is more = more is
-xact_known scripts (Commit y ∷ past) s x legal is = by_test (is_that (xact_of past s) y) is (λ h. xact_known scripts past s x legal.1 h) where
-  by_test : (b : Bool) → cond b None (xact_of past s) ≡ Some x → (xact_of past s ≡ Some x → s < scripts.sessions) → s < scripts.sessions
+xact_known terms (Commit y ∷ past) s x legal is = by_test (is_that (xact_of past s) y) is (λ h. xact_known terms past s x legal.1 h) where
+  by_test : (b : Bool) → cond b None (xact_of past s) ≡ Some x → (xact_of past s ≡ Some x → s < terms.scripts.sessions) → s < terms.scripts.sessions
   by_test true is more = absurd cc
   by_test false is more = more is
-xact_known scripts (Abort y ∷ past) s x legal is = by_test (is_that (xact_of past s) y) is (λ h. xact_known scripts past s x legal.1 h) where
-  by_test : (b : Bool) → cond b None (xact_of past s) ≡ Some x → (xact_of past s ≡ Some x → s < scripts.sessions) → s < scripts.sessions
+xact_known terms (Abort y ∷ past) s x legal is = by_test (is_that (xact_of past s) y) is (λ h. xact_known terms past s x legal.1 h) where
+  by_test : (b : Bool) → cond b None (xact_of past s) ≡ Some x → (xact_of past s ≡ Some x → s < terms.scripts.sessions) → s < terms.scripts.sessions
   by_test true is more = absurd cc
   by_test false is more = more is
-xact_known scripts (e ∷ past) s x legal is = xact_known scripts past s x legal.1 is
+xact_known terms (e ∷ past) s x legal is = xact_known terms past s x legal.1 is
 
 -- so a session past the end of the list has neither
-pub none_past : (scripts : Scripts) (s : ℕ) (o : Option ℕ) → ((x : ℕ) → o ≡ Some x → s < scripts.sessions) → scripts.sessions ≤ s → o ≡ None
-none_past scripts s None known le = refl
-none_past scripts s (Some x) known le = absurd (let lt : s < scripts.sessions = known x refl in omega arith)
+pub none_past : (terms : Terms) (s : ℕ) (o : Option ℕ) → ((x : ℕ) → o ≡ Some x → s < terms.scripts.sessions) → terms.scripts.sessions ≤ s → o ≡ None
+none_past terms s None known le = refl
+none_past terms s (Some x) known le = absurd (let lt : s < terms.scripts.sessions = known x refl in omega arith)
 
 -- ---- who waits for the end of a transaction
 
@@ -136,9 +136,9 @@ first_is P past x y (z ∷ ys) each is = by_test (not (z == x) && is_open (fate 
   by_test false is more = more is
 
 -- the transaction that is in the way of a name has begun
-taker_began : (scripts : Scripts) (past : Past) (x y : ℕ) (o : Option Statement) → Legal scripts past → option_and_then (name_taker past x) o ≡ Some y → is_start past y ≡ true
-taker_began scripts past x y (Some (statements.CreateTable name columns)) legal is = first_is (Began past) past x y (makers past name) (makers_began_of scripts past name legal) is
-taker_began scripts past x y o legal is = absurd cc
+taker_began : (terms : Terms) (past : Past) (x y : ℕ) (o : Option Statement) → Legal terms past → option_and_then (name_taker past x) o ≡ Some y → is_start past y ≡ true
+taker_began terms past x y (Some (statements.CreateTable name columns)) legal is = first_is (Began past) past x y (makers past name) (makers_began_of terms past name legal) is
+taker_began terms past x y o legal is = absurd cc
 
 start_more : (place y : ℕ) (b : Bool) → b ≡ true → cond (place == y) true b ≡ true
 start_more place y b began = by_test (place == y) where
@@ -151,16 +151,16 @@ still_wanted true o want P is more = absurd cc
 still_wanted false o want P is more = more is
 
 -- so has the one that a session waits for
-pub ends_began : (scripts : Scripts) (past : Past) (s y : ℕ) → Legal scripts past → wanted_by past s ≡ Some (wants.Ends y) → is_start past y ≡ true
-ends_began scripts [] s y legal is = absurd cc
-ends_began scripts (Wait x want ∷ past) s y legal is = by_test (session_of past x == s) is (λ h. ends_began scripts past s y legal.1 h) where
+pub ends_began : (terms : Terms) (past : Past) (s y : ℕ) → Legal terms past → wanted_by past s ≡ Some (wants.Ends y) → is_start past y ≡ true
+ends_began terms [] s y legal is = absurd cc
+ends_began terms (Wait x want ∷ past) s y legal is = by_test (session_of past x == s) is (λ h. ends_began terms past s y legal.1 h) where
   by_test : (b : Bool) → cond b (Some want) (wanted_by past s) ≡ Some (wants.Ends y) → (wanted_by past s ≡ Some (wants.Ends y) → is_start past y ≡ true) → is_start past y ≡ true
   by_test true is more =
       let same : want ≡ wants.Ends y = cc in
-      taker_began scripts past x y (in_hand scripts past (session_of past x)) legal.1 (rw same at legal.0.rule.waits_for).1
+      taker_began terms past x y (in_hand terms past (session_of past x)) legal.1 (rw same at legal.0.rule.waits_for).1
   by_test false is more = more is
-ends_began scripts (Start r level ∷ past) s y legal is = still_wanted (r == s) (wanted_by past s) (wants.Ends y) _ is (λ h. start_more (length past) y (is_start past y) (ends_began scripts past s y legal.1 h))
-ends_began scripts (e ∷ past) s y legal is = still_wanted (made_by past e == s) (wanted_by past s) (wants.Ends y) _ is (λ h. ends_began scripts past s y legal.1 h)
+ends_began terms (Start r level ∷ past) s y legal is = still_wanted (r == s) (wanted_by past s) (wants.Ends y) _ is (λ h. start_more (length past) y (is_start past y) (ends_began terms past s y legal.1 h))
+ends_began terms (e ∷ past) s y legal is = still_wanted (made_by past e == s) (wanted_by past s) (wants.Ends y) _ is (λ h. ends_began terms past s y legal.1 h)
 
 -- ---- what is kept of the sessions is what they are doing
 
@@ -173,16 +173,16 @@ xact_got [] s o there past = sym (past refl)
 xact_got (t ∷ sessions) zero o there past = there t refl
 xact_got (t ∷ sessions) (suc s) o there past = xact_got sessions s o there past
 
-module _ (scripts : Scripts) (p : Parts) (kept : IsKept scripts p) where
+module _ (terms : Terms) (p : Parts) (kept : IsKept terms p) where
   abbrev now : Past
   now = past_of p.journal
 
-  past_sessions : (s : ℕ) → slice_get p.sessions s ≡ None → scripts.sessions ≤ s
-  past_sessions s is = let n : length p.sessions ≡ scripts.sessions = kept.sound.count in let le : length p.sessions ≤ s = past_end p.sessions s is in omega arith
+  past_sessions : (s : ℕ) → slice_get p.sessions s ≡ None → terms.scripts.sessions ≤ s
+  past_sessions s is = let n : length p.sessions ≡ terms.scripts.sessions = kept.sound.count in let le : length p.sessions ≤ s = past_end p.sessions s is in omega arith
 
   -- the open transaction of a session
   pub xact_so : (s : ℕ) → get_or (xacts_in p.sessions) s None ≡ xact_of now s
-  xact_so s = xact_got p.sessions s (xact_of now s) (λ t is. sym (kept.mirrors s t is).outline.xact_is) (λ is. none_past scripts s (xact_of now s) (λ x h. xact_known scripts now s x kept.sound.legal h) (past_sessions s is))
+  xact_so s = xact_got p.sessions s (xact_of now s) (λ t is. sym (kept.mirrors s t is).outline.xact_is) (λ is. none_past terms s (xact_of now s) (λ x h. xact_known terms now s x kept.sound.legal h) (past_sessions s is))
 
   -- who is held up by what is kept is blocked
   pub held_up_is : (s : ℕ) (t : Session) → slice_get p.sessions s ≡ Some t → is_held_up p.sessions t.wants ≡ is_blocked now s
@@ -190,7 +190,7 @@ module _ (scripts : Scripts) (p : Parts) (kept : IsKept scripts p) where
     by_want : (o : Option Want) → wanted_by now s ≡ o → is_held_up p.sessions o ≡ is_blocked now s
     by_want None so = rw so refl
     by_want (Some (wants.Table table mode)) so = sym (blocked_by_lock now s table mode kept.clear.settled so)
-    by_want (Some (wants.Ends y)) so = rw so (among_in p.sessions y ∙ among_open scripts now (xacts_in p.sessions) kept.sound.legal xact_so y (ends_began scripts now s y kept.sound.legal so))
+    by_want (Some (wants.Ends y)) so = rw so (among_in p.sessions y ∙ among_open terms now (xacts_in p.sessions) kept.sound.legal xact_so y (ends_began terms now s y kept.sound.legal so))
 
   pub can_go_is : (s : ℕ) (t : Session) → slice_get p.sessions s ≡ Some t → can_go_on now s ≡ can_go p.sessions t
   can_go_is s t is = rw ((kept.mirrors s t is).outline.hand_is, held_up_is s t is) refl
@@ -216,15 +216,15 @@ module _ (scripts : Scripts) (p : Parts) (kept : IsKept scripts p) where
   ready_by (Some at) first stuck = least at first
   ready_by None first stuck = none_ready stuck
 
-  pub ready_within : (o : Option ℕ) → IfSome o (λ at. IsFirstReady p.sessions at) → IfSome o (λ at. at < scripts.sessions)
-  ready_within (Some at) first = let n : length p.sessions ≡ scripts.sessions = kept.sound.count in let lt : at < length p.sessions = slice_get_within p.sessions at first.session first.there in omega arith
+  pub ready_within : (o : Option ℕ) → IfSome o (λ at. IsFirstReady p.sessions at) → IfSome o (λ at. at < terms.scripts.sessions)
+  ready_within (Some at) first = let n : length p.sessions ≡ terms.scripts.sessions = kept.sound.count in let lt : at < length p.sessions = slice_get_within p.sessions at first.session first.there in omega arith
   ready_within None first = tt
 
 -- ---- who waits has a step in hand
 
-pub wanting_busy : (scripts : Scripts) (past : Past) (s : ℕ) (want : Want) → Legal scripts past → wanted_by past s ≡ Some want → is_some (hand past s) ≡ true
-wanting_busy scripts [] s want legal is = absurd cc
-wanting_busy scripts (Wait x asked ∷ past) s want legal is = by_test (session_of past x == s) refl is (λ h. wanting_busy scripts past s want legal.1 h) where
+pub wanting_busy : (terms : Terms) (past : Past) (s : ℕ) (want : Want) → Legal terms past → wanted_by past s ≡ Some want → is_some (hand past s) ≡ true
+wanting_busy terms [] s want legal is = absurd cc
+wanting_busy terms (Wait x asked ∷ past) s want legal is = by_test (session_of past x == s) refl is (λ h. wanting_busy terms past s want legal.1 h) where
   goes : (a b : Bool) → a && b ≡ true → a ≡ true
   goes true b both = refl
   goes false b both = both
@@ -232,35 +232,35 @@ wanting_busy scripts (Wait x asked ∷ past) s want legal is = by_test (session_
   by_test : (b : Bool) → (session_of past x == s) ≡ b → cond b (Some asked) (wanted_by past s) ≡ Some want → (wanted_by past s ≡ Some want → is_some (hand past s) ≡ true) → is_some (hand past s) ≡ true
   by_test true own is more = rw (← eqb-true (session_of past x) s own) (goes (is_some (hand past (session_of past x))) _ legal.0.rule.in_step)
   by_test false own is more = more is
-wanting_busy scripts (Give r block ∷ past) s want legal is = by_test (r == s) is (λ h. wanting_busy scripts past s want legal.1 h) where
+wanting_busy terms (Give r block ∷ past) s want legal is = by_test (r == s) is (λ h. wanting_busy terms past s want legal.1 h) where
   by_test : (b : Bool) → cond b None (wanted_by past s) ≡ Some want → (wanted_by past s ≡ Some want → is_some (hand past s) ≡ true) → is_some (cond b (Some block) (hand past s)) ≡ true
   by_test true is more = absurd cc
   by_test false is more = more is
-wanting_busy scripts (End r ∷ past) s want legal is = by_test (r == s) is (λ h. wanting_busy scripts past s want legal.1 h) where
+wanting_busy terms (End r ∷ past) s want legal is = by_test (r == s) is (λ h. wanting_busy terms past s want legal.1 h) where
   by_test : (b : Bool) → cond b None (wanted_by past s) ≡ Some want → (wanted_by past s ≡ Some want → is_some (hand past s) ≡ true) → is_some (cond b None (hand past s)) ≡ true
   by_test true is more = absurd cc
   by_test false is more = more is
-wanting_busy scripts (e ∷ past) s want legal is = still_wanted (made_by past e == s) (wanted_by past s) want _ is (λ h. wanting_busy scripts past s want legal.1 h)
+wanting_busy terms (e ∷ past) s want legal is = still_wanted (made_by past e == s) (wanted_by past s) want _ is (λ h. wanting_busy terms past s want legal.1 h)
 
 -- so an idle session has no request that waits
-pub idle_asks : (scripts : Scripts) (past : Past) (s : ℕ) → Legal scripts past → WantsSo past → hand past s ≡ None → (c : Claim) → is_held (waiting past) c ≡ true → (s == c.session) ≡ false
-idle_asks scripts past s legal so idle c there = by_test (s == c.session) refl where
+pub idle_asks : (terms : Terms) (past : Past) (s : ℕ) → Legal terms past → WantsSo past → hand past s ≡ None → (c : Claim) → is_held (waiting past) c ≡ true → (s == c.session) ≡ false
+idle_asks terms past s legal so idle c there = by_test (s == c.session) refl where
   by_test : (b : Bool) → (s == c.session) ≡ b → b ≡ false
   by_test false other = refl
   by_test true same =
-      let busy : is_some (hand past c.session) ≡ true = wanting_busy scripts past c.session _ legal (so c there) in
+      let busy : is_some (hand past c.session) ≡ true = wanting_busy terms past c.session _ legal (so c there) in
       let none : hand past c.session ≡ None = rw (← eqb-true s c.session same) idle in
       absurd (let wrong : false ≡ true = rw none at busy in cc)
 
 -- ---- one session has changed, in what is kept as in the journal
 
-pub mirrors_set : (scripts : Scripts) (past after : Past) (sessions : List Session) (s : ℕ) (u : Session)
-    → ((r : ℕ) (t : Session) → (s == r) ≡ false → slice_get sessions r ≡ Some t → IsMirror scripts (doing past r) t)
+pub mirrors_set : (terms : Terms) (past after : Past) (sessions : List Session) (s : ℕ) (u : Session)
+    → ((r : ℕ) (t : Session) → (s == r) ≡ false → slice_get sessions r ≡ Some t → IsMirror terms (doing past r) t)
     → ((r : ℕ) → (s == r) ≡ false → doing after r ≡ doing past r)
-    → IsMirror scripts (doing after s) u
-    → (r : ℕ) (t : Session) → slice_get (slice_set sessions s u) r ≡ Some t → IsMirror scripts (doing after r) t
-mirrors_set scripts past after sessions s u mirrors others own r t is = by_place (got_set sessions s r u t is) where
-  by_place : ((s ≡ r) × (u ≡ t)) ⊎ (((s == r) ≡ false) × (slice_get sessions r ≡ Some t)) → IsMirror scripts (doing after r) t
+    → IsMirror terms (doing after s) u
+    → (r : ℕ) (t : Session) → slice_get (slice_set sessions s u) r ≡ Some t → IsMirror terms (doing after r) t
+mirrors_set terms past after sessions s u mirrors others own r t is = by_place (got_set sessions s r u t is) where
+  by_place : ((s ≡ r) × (u ≡ t)) ⊎ (((s == r) ≡ false) × (slice_get sessions r ≡ Some t)) → IsMirror terms (doing after r) t
   by_place (inl e) = rw (← e.0, ← e.1) own
   by_place (inr e) = rw (others r e.0) (mirrors r t e.0 e.1)
 

@@ -1,25 +1,26 @@
 -- A statement of an open transaction goes on: what is known of it between two calls, after its Look and after its act.
 use Rattle.std.proofs.Common.{◌≡◌, ℕ, ◌≤◌, [], ◌∷◌, length, refl, sym, ap, true, false, Bool, Option, Some, None, arith, ◌∙◌, slice_get, subst}
-use Rattle.std.specs.Prelude.{◌&&◌, not, IsSome, is_some}
+use Rattle.std.specs.Prelude.{◌&&◌, not, IsSome, is_some, option_and_then}
 use Rattle.al_history.specs.declared.entry.Cause.{Cause}
 use Rattle.al_history.specs.declared.entry.Entry.{Entry}
 use Rattle.al_history.specs.declared.entry.Entry.TheVariants.{Look}
 use Rattle.al_history.specs.declared.entry.Reply.{Reply}
 use Rattle.al_history.specs.declared.spec.Spec.{Spec}
 use Rattle.al_history.specs.declared.statement.Statement.{Statement}
-use Rattle.al_history.specs.declared.statement.Scripts.{Scripts}
+use Rattle.al_history.specs.declared.statement.Terms.{Terms}
 use Rattle.al_history.specs.Past.{Past, past_of}
 use Rattle.al_history.specs.Fate.{Open, fate}
-use Rattle.al_history.specs.Hand.{BlockState, NoBlock, OpenBlock, FailedBlock, hand, statement_of, block_state, block_after}
+use Rattle.al_history.specs.Hand.{BlockState, NoBlock, OpenBlock, FailedBlock, hand, statement_of, session_of, block_state, block_after}
 use Rattle.al_history.specs.Locks.{held, waiting, is_settled}
 use Rattle.al_history.specs.Made.{row_entries}
-use Rattle.al_history.specs.Need.{need, first_lacking}
+use Rattle.al_history.specs.Need.{has_place, need, first_lacking}
 use Rattle.al_history.specs.Waits.{is_blocked, can_go_on}
+use Rattle.al_history.specs.Weight.{weight}
 use Rattle.al_history.specs.View.{latest}
-use Rattle.al_history.specs.Cause.{block_cause, cause_at, cause_of}
+use Rattle.al_history.specs.Cause.{block_cause, over, limit_cause, cause_at, cause_of}
 use Rattle.al_history.specs.Store.{store, shown}
 use Rattle.al_history.specs.Tail.{owed}
-use Rattle.al_history.specs.Rules.{Answers, ActRule, has_place}
+use Rattle.al_history.specs.Rules.{Answers, ActRule}
 use Rattle.al_history.specs.Legal.{Legal, MayCome}
 use Rattle.al_history.specs.Whole.{driver, failed_setup, or_else, of_setup, IsLeast, IsTurn}
 use Rattle.al_history.proofs.Comes.{cause_free, lacking_in, comes_look, act_rule, goes}
@@ -27,7 +28,7 @@ use Rattle.al_history.proofs.Doings.{Doing, doing, acted, moved, IsXact, IsBy, o
 use Rattle.al_history.proofs.Turns.{Stage, Went, stage_begins, stage_on, step_look, extends_on}
 use Rattle.al_history.proofs.Xacts.{xact_is, turn}
 use Rattle.al_engine.specs.declared.sessions.Session.{Session}
-use Rattle.al_engine.specs.Kept.{Parts, IsAmid, IsClear, IsKept, CanBeDone, CanBeRefused}
+use Rattle.al_engine.specs.Kept.{Parts, IsAmid, IsClear, IsKept, CanBeDone, CanBeRefused, over_by}
 use Rattle.al_engine.specs.LockTie.{asks, IsTied}
 use Rattle.al_engine.specs.Sessions.{IsMirror, IsUnderway, IsOutlined, MakesTable, state_of}
 use Rattle.al_engine.specs.Stored.{all_kept, seen_by, TellsCommitted}
@@ -35,9 +36,9 @@ use Rattle.al_engine.proofs.FailedBlocks.{open_unfailed}
 use Rattle.al_engine.proofs.StoredLemmas.{latest_kept}
 use Rattle.al_engine.proofs.Wanted.{free_asks}
 
-in_step_by : (scripts : Scripts) (statement : Statement) (o : Option ℕ) → statement_of scripts o 0 ≡ Some statement → IsSome o
-in_step_by scripts statement None is = absurd cc
-in_step_by scripts statement (Some block) is = refl
+in_step_by : (terms : Terms) (statement : Statement) (o : Option ℕ) → statement_of terms o 0 ≡ Some statement → IsSome o
+in_step_by terms statement None is = absurd cc
+in_step_by terms statement (Some block) is = refl
 
 -- ---- what is known of it
 
@@ -46,15 +47,15 @@ abbrev pub at_work : Session → ℕ → Option Past → Doing
 at_work t x look = record { hand = t.hand; dones = 0; refused = false; xact = Some x; look = look; acts = []; block = state_of t.block; closed = t.closed; wants = t.wants }
 
 -- the statement in hand of an open transaction, with this Look, has done nothing yet, and nothing is owed
-pub record Works (scripts : Scripts) (past : Past) (s : ℕ) (t : Session) (x : ℕ) (statement : Statement) (look : Option Past) : Type 0 where
-  pub legal : Legal scripts past
+pub record Works (terms : Terms) (past : Past) (s : ℕ) (t : Session) (x : ℕ) (statement : Statement) (look : Option Past) : Type 0 where
+  pub legal : Legal terms past
   pub settled : is_settled past ≡ true
-  pub owed_is : owed scripts past ≡ None
+  pub owed_is : owed terms past ≡ None
   pub doing_is : doing past s ≡ at_work t x look
   pub by : IsXact past s x
   pub in_xact : t.xact ≡ Some x
-  pub statement_is : statement_of scripts t.hand 0 ≡ Some statement
-  pub last : statement_of scripts t.hand 1 ≡ None
+  pub statement_is : statement_of terms t.hand 0 ≡ Some statement
+  pub last : statement_of terms t.hand 1 ≡ None
   pub unfailed : block_cause (state_of t.block) statement ≡ None
 
 same_doing : (a b : Doing) → a.hand ≡ b.hand → a.dones ≡ b.dones → a.refused ≡ b.refused → a.xact ≡ b.xact → a.look ≡ b.look → a.acts ≡ b.acts → a.block ≡ b.block → a.closed ≡ b.closed → a.wants ≡ b.wants → a ≡ b
@@ -66,16 +67,16 @@ block_clear past s OpenBlock statement is never = refl
 block_clear past s (FailedBlock r) statement is never = absurd (never r is)
 
 -- between two calls
-module _ (scripts : Scripts) (p : Parts) (s : ℕ) (t : Session) (x : ℕ) (statement : Statement) (kept : IsKept scripts p) (seat : slice_get p.sessions s ≡ Some t) (in_xact : t.xact ≡ Some x) (statement_is : statement_of scripts t.hand 0 ≡ Some statement) where
-  mirror : IsMirror scripts (doing (past_of p.journal) s) t
+module _ (terms : Terms) (p : Parts) (s : ℕ) (t : Session) (x : ℕ) (statement : Statement) (kept : IsKept terms p) (seat : slice_get p.sessions s ≡ Some t) (in_xact : t.xact ≡ Some x) (statement_is : statement_of terms t.hand 0 ≡ Some statement) where
+  mirror : IsMirror terms (doing (past_of p.journal) s) t
   mirror = kept.mirrors s t seat
 
-  pub works_for : (o : Option ℕ) → t.hand ≡ o → Works scripts (past_of p.journal) s t x statement (doing (past_of p.journal) s).look
+  pub works_for : (o : Option ℕ) → t.hand ≡ o → Works terms (past_of p.journal) s t x statement (doing (past_of p.journal) s).look
   works_for None idle = absurd (let wrong : ◌≡◌ {A = Option Statement} None (Some statement) = rw idle at statement_is in cc)
   works_for (Some block) busy =
-      let u : IsUnderway scripts (doing (past_of p.journal) s) block t.looked = mirror.underway block busy in
+      let u : IsUnderway terms (doing (past_of p.journal) s) block t.looked = mirror.underway block busy in
       let o : IsOutlined (doing (past_of p.journal) s) t = mirror.outline in
-      let own = xact_is scripts (past_of p.journal) s x kept.sound.legal (o.xact_is ∙ in_xact) in
+      let own = xact_is terms (past_of p.journal) s x kept.sound.legal (o.xact_is ∙ in_xact) in
       record {
         legal = kept.sound.legal;
         settled = kept.clear.settled;
@@ -85,10 +86,10 @@ module _ (scripts : Scripts) (p : Parts) (s : ℕ) (t : Session) (x : ℕ) (stat
         in_xact = in_xact;
         statement_is = statement_is;
         last = rw busy u.has_no_more;
-        unfailed = block_clear (past_of p.journal) s (state_of t.block) statement o.block_is (λ r failed. open_unfailed scripts (past_of p.journal) s x r kept.sound.legal kept.clear.owed_is (o.xact_is ∙ in_xact) failed);
+        unfailed = block_clear (past_of p.journal) s (state_of t.block) statement o.block_is (λ r failed. open_unfailed terms (past_of p.journal) s x r kept.sound.legal kept.clear.owed_is (o.xact_is ∙ in_xact) failed);
       }
 
-  pub works : Works scripts (past_of p.journal) s t x statement (doing (past_of p.journal) s).look
+  pub works : Works terms (past_of p.journal) s t x statement (doing (past_of p.journal) s).look
   works = works_for t.hand refl
 
   look_for : (o : Option ℕ) → t.hand ≡ o → is_some (doing (past_of p.journal) s).look ≡ t.looked
@@ -97,7 +98,7 @@ module _ (scripts : Scripts) (p : Parts) (s : ℕ) (t : Session) (x : ℕ) (stat
 
   only_for : (o : Option ℕ) → t.hand ≡ o → t.looked ≡ true → MakesTable (Some statement)
   only_for None idle looked = absurd (let wrong : ◌≡◌ {A = Option Statement} None (Some statement) = rw idle at statement_is in cc)
-  only_for (Some block) busy looked = subst (λ (o : Option Statement). MakesTable o) (ap (λ (h : Option ℕ). statement_of scripts h 0) (sym busy) ∙ statement_is) ((mirror.underway block busy).only_creates looked)
+  only_for (Some block) busy looked = subst (λ (o : Option Statement). MakesTable o) (ap (λ (h : Option ℕ). statement_of terms h 0) (sym busy) ∙ statement_is) ((mirror.underway block busy).only_creates looked)
 
   -- it has looked just where the session's record says so
   pub look_is : is_some (doing (past_of p.journal) s).look ≡ t.looked
@@ -110,19 +111,19 @@ module _ (scripts : Scripts) (p : Parts) (s : ℕ) (t : Session) (x : ℕ) (stat
     by_looked true creates = absurd (other (creates refl))
     by_looked false creates = refl
 
-  pub works_first : t.looked ≡ false → Works scripts (past_of p.journal) s t x statement None
+  pub works_first : t.looked ≡ false → Works terms (past_of p.journal) s t x statement None
   works_first before = by_look (doing (past_of p.journal) s).look (look_is ∙ before) works where
-    by_look : (o : Option Past) → is_some o ≡ false → Works scripts (past_of p.journal) s t x statement o → Works scripts (past_of p.journal) s t x statement None
+    by_look : (o : Option Past) → is_some o ≡ false → Works terms (past_of p.journal) s t x statement o → Works terms (past_of p.journal) s t x statement None
     by_look None none w = w
     by_look (Some look) none w = absurd cc
 
   -- its transaction is open
   pub undecided : fate (past_of p.journal) x ≡ Open
-  undecided = (xact_is scripts (past_of p.journal) s x kept.sound.legal works.by.open_xact).undecided
+  undecided = (xact_is terms (past_of p.journal) s x kept.sound.legal works.by.open_xact).undecided
 
   -- what it finds is what is kept of the tables
-  pub latest_is : latest scripts (past_of p.journal) x ≡ shown (seen_by (Some x) p.committed) (all_kept p.tables)
-  latest_is = latest_kept scripts (past_of p.journal) p.tables x p.committed kept.sound.legal undecided kept.sound.stored kept.sound.tells
+  pub latest_is : latest terms (past_of p.journal) x ≡ shown (seen_by (Some x) p.committed) (all_kept p.tables)
+  latest_is = latest_kept terms (past_of p.journal) p.tables x p.committed kept.sound.legal undecided kept.sound.stored kept.sound.tells
 
   -- it has no request that waits
   pub asks_none : can_go_on (past_of p.journal) s ≡ true → asks s (waiting (past_of p.journal)) ≡ false
@@ -134,45 +135,61 @@ module _ (scripts : Scripts) (p : Parts) (s : ℕ) (t : Session) (x : ℕ) (stat
 
 -- ---- by what it is doing
 
-module _ (scripts : Scripts) (past : Past) (s : ℕ) (t : Session) (x : ℕ) (statement : Statement) (look : Option Past) (w : Works scripts past s t x statement look) where
+module _ (terms : Terms) (past : Past) (s : ℕ) (t : Session) (x : ℕ) (statement : Statement) (look : Option Past) (w : Works terms past s t x statement look) where
   -- the cause for which it has to be refused
-  pub cause_so : cause_of scripts past s ≡ cause_at scripts past x statement [] look
-  cause_so = cause_free scripts past s (at_work t x look) w.legal w.doing_is w.settled w.owed_is ∙ rw (w.statement_is, w.unfailed) refl
+  pub cause_so : cause_of terms past s ≡ cause_at terms past x statement [] look
+  cause_so = cause_free terms past s (at_work t x look) w.legal w.doing_is w.settled w.owed_is ∙ rw (w.statement_is, w.unfailed) refl
 
   -- the lock that it lacks
-  pub lacking_so : lacking_in scripts past s x (at_work t x look) ≡ first_lacking (held past) (need s statement (latest scripts past x))
+  pub lacking_so : lacking_in terms past s x (at_work t x look) ≡ first_lacking (held past) (need s statement (latest terms past x))
   lacking_so = rw w.statement_is refl
 
   -- it has to be refused
-  pub can_be_refused : (cause : Cause) → cause_at scripts past x statement [] look ≡ Some cause → CanBeRefused scripts past s t cause
+  pub can_be_refused : (cause : Cause) → cause_at terms past x statement [] look ≡ Some cause → CanBeRefused terms past s t cause
   can_be_refused cause is = record {
     hand_is = ap (λ (d : Doing). d.hand) w.doing_is;
     xact_is = ap (λ (d : Doing). d.xact) w.doing_is ∙ sym w.in_xact;
     block_is = ap (λ (d : Doing). d.block) w.doing_is;
     closed_is = ap (λ (d : Doing). d.closed) w.doing_is;
-    in_step = in_step_by scripts statement t.hand w.statement_is;
+    in_step = in_step_by terms statement t.hand w.statement_is;
     first_true = cause_so ∙ is;
     settled = w.settled;
     follows = rw w.owed_is tt;
   }
 
+  -- nobody blocks it, so its next entry may weigh what is left
+  pub limit_so : is_blocked past s ≡ false → (next : Option ℕ) → limit_cause terms past x next ≡ option_and_then (over terms past) next
+  limit_so free next = let here : is_blocked past (session_of past x) ≡ false = rw w.by.session free in rw here refl
+
   -- its next entry moves it
-  pub act_may : IsSome look → first_lacking (held past) (need s statement (latest scripts past x)) ≡ None → cause_at scripts past x statement [] look ≡ None → ActRule scripts past x
-  act_may looked locked free = act_rule scripts past s (at_work t x look) w.legal w.doing_is w.settled x w.by looked refl (lacking_so ∙ locked) (cause_so ∙ free)
+  pub act_may : IsSome look → first_lacking (held past) (need s statement (latest terms past x)) ≡ None → cause_at terms past x statement [] look ≡ None → ActRule terms past x
+  act_may looked locked free = act_rule terms past s (at_work t x look) w.legal w.doing_is w.settled x w.by looked refl (lacking_so ∙ locked) (cause_so ∙ free)
 
   -- it can go on after an entry that ends nothing and asks for nothing
-  pub goes_after : (e : Entry) → IsBy past s e → (moved past e (at_work t x look)).hand ≡ t.hand → (moved past e (at_work t x look)).wants ≡ None → is_settled (e ∷ past) ≡ true → MayCome scripts past e → can_go_on (e ∷ past) s ≡ true
+  pub goes_after : (e : Entry) → IsBy past s e → (moved past e (at_work t x look)).hand ≡ t.hand → (moved past e (at_work t x look)).wants ≡ None → is_settled (e ∷ past) ≡ true → MayCome terms past e → can_go_on (e ∷ past) s ≡ true
   goes_after e by hand_same free settled comes = by_hand t.hand w.statement_is refl where
-    by_hand : (o : Option ℕ) → statement_of scripts o 0 ≡ Some statement → t.hand ≡ o → can_go_on (e ∷ past) s ≡ true
+    by_hand : (o : Option ℕ) → statement_of terms o 0 ≡ Some statement → t.hand ≡ o → can_go_on (e ∷ past) s ≡ true
     by_hand None is busy = absurd cc
-    by_hand (Some block) is busy = goes scripts (e ∷ past) s (moved past e (at_work t x look)) (comes, w.legal) (own_moves past s e by ∙ ap (moved past e) w.doing_is) settled block (hand_same ∙ busy) free
+    by_hand (Some block) is busy = goes terms (e ∷ past) s (moved past e (at_work t x look)) (comes, w.legal) (own_moves past s e by ∙ ap (moved past e) w.doing_is) settled block (hand_same ∙ busy) free
+
+-- who can go on isn't blocked
+pub unblocked_by : (past : Past) (s : ℕ) → can_go_on past s ≡ true → is_blocked past s ≡ false
+unblocked_by past s goes_on = by_test (is_some (hand past s)) (is_blocked past s) goes_on where
+  by_test : (a b : Bool) → a && not b ≡ true → b ≡ false
+  by_test true true goes_on = absurd cc
+  by_test true false goes_on = refl
+  by_test false b goes_on = absurd cc
+
+-- what fits is no cause, and what doesn't is one
+pub fits_by : (terms : Terms) (past : Past) (next : ℕ) (cause : Option Cause) → cause ≡ over_by terms.weight (weight past) next → over terms past next ≡ cause
+fits_by terms past next cause is = sym is
 
 -- the Look
-module _ (scripts : Scripts) (past : Past) (s : ℕ) (t : Session) (x : ℕ) (statement : Statement) (w : Works scripts past s t x statement None) where
-  pub look_may : has_place statement ≡ true → first_lacking (held past) (need s statement (latest scripts past x)) ≡ None → cause_at scripts past x statement [] None ≡ None → MayCome scripts past (Look x)
-  look_may placed locked free = comes_look scripts past s (at_work t x None) w.legal w.doing_is w.settled x w.by statement w.statement_is placed refl (lacking_so scripts past s t x statement None w ∙ locked) (cause_so scripts past s t x statement None w ∙ free) w.owed_is
+module _ (terms : Terms) (past : Past) (s : ℕ) (t : Session) (x : ℕ) (statement : Statement) (w : Works terms past s t x statement None) where
+  pub look_may : has_place statement ≡ true → first_lacking (held past) (need s statement (latest terms past x)) ≡ None → cause_at terms past x statement [] None ≡ None → MayCome terms past (Look x)
+  look_may placed locked free = comes_look terms past s (at_work t x None) w.legal w.doing_is w.settled x w.by statement w.statement_is placed refl (lacking_so terms past s t x statement None w ∙ locked) (cause_so terms past s t x statement None w ∙ free) w.owed_is
 
-  pub looks : MayCome scripts past (Look x) → Works scripts (Look x ∷ past) s (record t { wants = None }) x statement (Some past)
+  pub looks : MayCome terms past (Look x) → Works terms (Look x ∷ past) s (record t { wants = None }) x statement (Some past)
   looks comes = record {
     legal = (comes, w.legal);
     settled = w.settled;
@@ -185,19 +202,19 @@ module _ (scripts : Scripts) (past : Past) (s : ℕ) (t : Session) (x : ℕ) (st
     unfailed = w.unfailed;
   }
 
-  pub stage_looks : MayCome scripts past (Look x) → Stage scripts s past (Look x ∷ past) 0
-  stage_looks comes = stage_on scripts s past past 0 0 (Look x) (stage_begins scripts s past w.legal w.settled w.owed_is) (step_look x) w.by comes w.settled refl (goes_after scripts past s t x statement None w (Look x) w.by refl refl w.settled comes) (omega arith)
+  pub stage_looks : MayCome terms past (Look x) → Stage terms s past (Look x ∷ past) 0
+  stage_looks comes = stage_on terms s past past 0 0 (Look x) (stage_begins terms s past w.legal w.settled w.owed_is) (step_look x) w.by comes w.settled refl (goes_after terms past s t x statement None w (Look x) w.by refl refl w.settled comes) (omega arith)
 
 -- the act
-module _ (scripts : Scripts) (past : Past) (s : ℕ) (t : Session) (x : ℕ) (statement : Statement) (look : Option Past) (w : Works scripts past s t x statement look) (e : Entry) (by : IsBy past s e) (acts : (d : Doing) → moved past e d ≡ acted past d) where
+module _ (terms : Terms) (past : Past) (s : ℕ) (t : Session) (x : ℕ) (statement : Statement) (look : Option Past) (w : Works terms past s t x statement look) (e : Entry) (by : IsBy past s e) (acts : (d : Doing) → moved past e d ≡ acted past d) where
   moves_so : doing (e ∷ past) s ≡ acted past (at_work t x look)
   moves_so = own_moves past s e by ∙ (acts (doing past s) ∙ ap (acted past) w.doing_is)
 
-  pub acted_goes : is_settled (e ∷ past) ≡ true → MayCome scripts past e → can_go_on (e ∷ past) s ≡ true
-  acted_goes settled comes = goes_after scripts past s t x statement look w e by (ap (λ (d : Doing). d.hand) (acts (at_work t x look))) (ap (λ (d : Doing). d.wants) (acts (at_work t x look))) settled comes
+  pub acted_goes : is_settled (e ∷ past) ≡ true → MayCome terms past e → can_go_on (e ∷ past) s ≡ true
+  acted_goes settled comes = goes_after terms past s t x statement look w e by (ap (λ (d : Doing). d.hand) (acts (at_work t x look))) (ap (λ (d : Doing). d.wants) (acts (at_work t x look))) settled comes
 
   -- it can be done then
-  pub can_be_done : (reply : Reply) → Answers (Some statement) (length past ∷ []) (Some x) (state_of t.block) reply → block_after reply (state_of t.block) ≡ state_of t.block → CanBeDone scripts (e ∷ past) s t reply
+  pub can_be_done : (reply : Reply) → Answers (Some statement) (length past ∷ []) (Some x) (state_of t.block) reply → block_after reply (state_of t.block) ≡ state_of t.block → CanBeDone terms (e ∷ past) s t reply
   can_be_done reply answers keeps = record {
     outline = record {
       hand_is = ap (λ (d : Doing). d.hand) moves_so;
@@ -206,7 +223,7 @@ module _ (scripts : Scripts) (past : Past) (s : ℕ) (t : Session) (x : ℕ) (st
       closed_is = ap (λ (d : Doing). d.closed) moves_so;
       wants_is = ap (λ (d : Doing). d.wants) moves_so;
     };
-    in_step = in_step_by scripts statement t.hand w.statement_is;
+    in_step = in_step_by terms statement t.hand w.statement_is;
     in_xact = rw w.in_xact refl;
     none_done = ap (λ (d : Doing). d.dones) moves_so;
     none_refused = ap (λ (d : Doing). d.refused) moves_so;
@@ -227,18 +244,19 @@ pub record StaysBut (p q : Parts) : Type 0 where
   pub room : p.journal.room ≤ q.journal.room
   pub held_same : held (past_of q.journal) ≡ held (past_of p.journal)
   pub waiting_same : waiting (past_of q.journal) ≡ waiting (past_of p.journal)
+  pub weighed : q.weight ≡ weight (past_of q.journal)
 
-pub stays : (p q : Parts) (past : Past) → past_of q.journal ≡ past → q.sessions ≡ p.sessions → q.locks ≡ p.locks → q.committed ≡ p.committed → p.journal.room ≤ q.journal.room → held past ≡ held (past_of p.journal) → waiting past ≡ waiting (past_of p.journal) → StaysBut p q
-stays p q past is sessions locks committed room held_same waiting_same = record { sessions = sessions; locks = locks; committed = committed; room = room; held_same = rw is held_same; waiting_same = rw is waiting_same }
+pub stays : (p q : Parts) (past : Past) → past_of q.journal ≡ past → q.sessions ≡ p.sessions → q.locks ≡ p.locks → q.committed ≡ p.committed → p.journal.room ≤ q.journal.room → held past ≡ held (past_of p.journal) → waiting past ≡ waiting (past_of p.journal) → q.weight ≡ weight past → StaysBut p q
+stays p q past is sessions locks committed room held_same waiting_same weighed = record { sessions = sessions; locks = locks; committed = committed; room = room; held_same = rw is held_same; waiting_same = rw is waiting_same; weighed = rw is weighed }
 
-module _ (scripts : Scripts) (p q : Parts) (s rows : ℕ) (kept : IsKept scripts p) (st : Stage scripts s (past_of p.journal) (past_of q.journal) rows) (still : StaysBut p q) where
+module _ (terms : Terms) (p q : Parts) (s rows : ℕ) (kept : IsKept terms p) (st : Stage terms s (past_of p.journal) (past_of q.journal) rows) (still : StaysBut p q) where
   tells_still : TellsCommitted (past_of q.journal) q.committed
   tells_still y = rw (still.committed, st.fates y) (kept.sound.tells y)
 
   tied_still : IsTied (past_of q.journal) q.locks.locks
   tied_still = rw still.locks (record { waits = rw still.waiting_same kept.sound.tied.waits; holds = λ test. rw still.held_same (kept.sound.tied.holds test); apart = rw still.waiting_same kept.sound.tied.apart })
 
-  pub amid_after : all_kept q.tables ≡ store scripts (past_of q.journal) → IsAmid scripts q s 0
+  pub amid_after : all_kept q.tables ≡ store terms (past_of q.journal) → IsAmid terms q s 0
   amid_after stored = record {
     sound = record {
       legal = st.legal;
@@ -250,6 +268,7 @@ module _ (scripts : Scripts) (p q : Parts) (s rows : ℕ) (kept : IsKept scripts
       table_count = rw still.locks kept.sound.table_count;
       tied = tied_still;
       queues = rw still.locks kept.sound.queues;
+      weighed = still.weighed;
       reserved = rw (still.sessions, still.locks) (omega (arith, kept.sound.reserved, still.room));
       single = kept.sound.single;
     };
@@ -257,14 +276,14 @@ module _ (scripts : Scripts) (p q : Parts) (s rows : ℕ) (kept : IsKept scripts
     others = λ r u other there. rw (st.others r other) (kept.mirrors r u (rw still.sessions at there));
   }
 
-  pub clear_after : IsClear scripts (past_of q.journal)
+  pub clear_after : IsClear terms (past_of q.journal)
   clear_after = record { owed_is = st.owed_is; settled = st.settled }
 
 -- ---- what the turn did
 
-module _ (scripts : Scripts) (s : ℕ) (old mid new : Past) where
+module _ (terms : Terms) (s : ℕ) (old mid new : Past) where
   -- a stage, and then the statement was done
-  pub done_went : (rows : ℕ) → Stage scripts s old mid rows → rows ≤ 1 → length old ≤ length mid → row_entries new ≡ row_entries mid → Went scripts s mid new false (driver mid) (IsLeast mid s) → Went scripts s old new false (driver old) (IsLeast old s)
+  pub done_went : (rows : ℕ) → Stage terms s old mid rows → rows ≤ 1 → length old ≤ length mid → row_entries new ≡ row_entries mid → Went terms s mid new false (driver mid) (IsLeast mid s) → Went terms s old new false (driver old) (IsLeast old s)
   done_went rows st few more same went = record {
     legal = went.legal;
     extends = extends_on s old mid new st.extends went.extends;
@@ -280,7 +299,7 @@ module _ (scripts : Scripts) (s : ℕ) (old mid new : Past) where
   }
 
   -- a stage without a row, and then it was refused
-  pub refused_went : Stage scripts s old mid 0 → length old ≤ length mid → Went scripts s mid new true (driver mid) (IsTurn (owed scripts mid) mid s) → Went scripts s old new true (driver old) (IsLeast old s)
+  pub refused_went : Stage terms s old mid 0 → length old ≤ length mid → Went terms s mid new true (driver mid) (IsTurn (owed terms mid) mid s) → Went terms s old new true (driver old) (IsLeast old s)
   refused_went st more went = record {
     legal = went.legal;
     extends = extends_on s old mid new st.extends went.extends;

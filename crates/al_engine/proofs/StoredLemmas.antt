@@ -10,7 +10,7 @@ use Rattle.al_history.specs.declared.entry.Entry.TheVariants.{Make, Add, Alter, 
 use Rattle.al_history.specs.declared.entry.Rewritten.{Rewritten}
 use Rattle.al_history.specs.declared.statement.Column.{Column}
 use Rattle.al_history.specs.declared.statement.Statement.TheVariants as statements
-use Rattle.al_history.specs.declared.statement.Scripts.{Scripts}
+use Rattle.al_history.specs.declared.statement.Terms.{Terms}
 use Rattle.al_history.specs.Past.{Past}
 use Rattle.al_history.specs.Database.{Table, named, same_name}
 use Rattle.al_history.specs.Fate.{Fate, Open, Committed, Aborted, fate, is_that}
@@ -101,8 +101,8 @@ pub seen_is : (past : Past) (x : ℕ) (committed : List Bool) → TellsCommitted
 seen_is past x committed tells = fun_ext (λ y. ap (λ (b : Bool). is_that (Some x) y || b) (tells y))
 
 -- what a transaction finds is what it sees of the tables that are kept
-pub latest_kept : (scripts : Scripts) (past : Past) (tables : List StoredTable) (x : ℕ) (committed : List Bool) → Legal scripts past → fate past x ≡ Open → all_kept tables ≡ store scripts past → TellsCommitted past committed → latest scripts past x ≡ shown (seen_by (Some x) committed) (all_kept tables)
-latest_kept scripts past tables x committed legal undecided is tells = latest_shown scripts past x (locks_suffice scripts past legal) undecided ∙ ap (λ (f : ℕ → Bool). shown f (store scripts past)) (sym (seen_is past x committed tells)) ∙ ap (λ (all : List KeptTable). shown (seen_by (Some x) committed) all) (sym is)
+pub latest_kept : (terms : Terms) (past : Past) (tables : List StoredTable) (x : ℕ) (committed : List Bool) → Legal terms past → fate past x ≡ Open → all_kept tables ≡ store terms past → TellsCommitted past committed → latest terms past x ≡ shown (seen_by (Some x) committed) (all_kept tables)
+latest_kept terms past tables x committed legal undecided is tells = latest_shown terms past x (locks_suffice terms past legal) undecided ∙ ap (λ (f : ℕ → Bool). shown f (store terms past)) (sym (seen_is past x committed tells)) ∙ ap (λ (all : List KeptTable). shown (seen_by (Some x) committed) all) (sym is)
 
 pub tells_none : TellsCommitted [] []
 tells_none y = refl
@@ -177,22 +177,22 @@ kept_slot_set next tables at t c x name column up is maker column_is = kept_set 
 
 -- ---- the tables that are kept are the one list of the journal, after each entry that makes something
 
-module _ (scripts : Scripts) (past : Past) (tables : List StoredTable) (x : ℕ) where
-  pub store_after_make : (number : ℕ) (name : List ℕ) (shape : List Column) (t : StoredTable) → all_kept tables ≡ store scripts past → kept_of t ≡ record { number = number; maker = x; name = name; slots = slots_of x shape; rows = [] } → all_kept (tables ++ t ∷ []) ≡ store scripts (Make x number name shape ∷ past)
+module _ (terms : Terms) (past : Past) (tables : List StoredTable) (x : ℕ) where
+  pub store_after_make : (number : ℕ) (name : List ℕ) (shape : List Column) (t : StoredTable) → all_kept tables ≡ store terms past → kept_of t ≡ record { number = number; maker = x; name = name; slots = slots_of x shape; rows = [] } → all_kept (tables ++ t ∷ []) ≡ store terms (Make x number name shape ∷ past)
   store_after_make number name shape t is table_is = rw (kept_push tables t, is, table_is) refl
 
-  pub store_after_add : (at : ℕ) (t : StoredTable) (r : StoredRow) (row : List Value) → Legal scripts past → all_kept tables ≡ store scripts past → slice_get tables at ≡ Some t → r.number ≡ length past → r.maker ≡ x → r.values ≡ spread (sees past (Some x)) (map slot_of t.columns) row → all_kept (slice_set tables at (with_stored_row r t)) ≡ store scripts (Add x t.number row ∷ past)
+  pub store_after_add : (at : ℕ) (t : StoredTable) (r : StoredRow) (row : List Value) → Legal terms past → all_kept tables ≡ store terms past → slice_get tables at ≡ Some t → r.number ≡ length past → r.maker ≡ x → r.values ≡ spread (sees past (Some x)) (map slot_of t.columns) row → all_kept (slice_set tables at (with_stored_row r t)) ≡ store terms (Add x t.number row ∷ past)
   store_after_add at t r row legal is there number maker values =
-      let up : Ascend 0 (length past) (all_kept tables) = rw is (store_ascends scripts past legal) in
+      let up : Ascend 0 (length past) (all_kept tables) = rw is (store_ascends terms past legal) in
       kept_row_set (length past) tables at t r x (sees past (Some x)) row up there maker values ∙ rw (number, is) refl
 
   -- the same, where the row is spread by what the list tells of who is committed
-  pub store_after_insert : (committed : List Bool) (at : ℕ) (t : StoredTable) (r : StoredRow) (row : List Value) → Legal scripts past → all_kept tables ≡ store scripts past → TellsCommitted past committed → slice_get tables at ≡ Some t → r.number ≡ length past → r.maker ≡ x → r.values ≡ spread (seen_by (Some x) committed) (map slot_of t.columns) row → all_kept (slice_set tables at (with_stored_row r t)) ≡ store scripts (Add x t.number row ∷ past)
+  pub store_after_insert : (committed : List Bool) (at : ℕ) (t : StoredTable) (r : StoredRow) (row : List Value) → Legal terms past → all_kept tables ≡ store terms past → TellsCommitted past committed → slice_get tables at ≡ Some t → r.number ≡ length past → r.maker ≡ x → r.values ≡ spread (seen_by (Some x) committed) (map slot_of t.columns) row → all_kept (slice_set tables at (with_stored_row r t)) ≡ store terms (Add x t.number row ∷ past)
   store_after_insert committed at t r row legal is tells there number maker values = store_after_add at t r row legal is there number maker (values ∙ ap (λ (f : ℕ → Bool). spread f (map slot_of t.columns) row) (seen_is past x committed tells))
 
-  pub store_after_alter : (at : ℕ) (t : StoredTable) (c : StoredColumn) (statement : ℕ) (rewritten : List Rewritten) (name : List ℕ) (column : Column) → Legal scripts past → all_kept tables ≡ store scripts past → slice_get tables at ≡ Some t → statement_of scripts (hand past (session_of past x)) statement ≡ Some (statements.AddColumn name column) → c.maker ≡ x → c.column ≡ column → all_kept (slice_set tables at (with_stored_column c t)) ≡ store scripts (Alter x t.number statement rewritten ∷ past)
+  pub store_after_alter : (at : ℕ) (t : StoredTable) (c : StoredColumn) (statement : ℕ) (rewritten : List Rewritten) (name : List ℕ) (column : Column) → Legal terms past → all_kept tables ≡ store terms past → slice_get tables at ≡ Some t → statement_of terms (hand past (session_of past x)) statement ≡ Some (statements.AddColumn name column) → c.maker ≡ x → c.column ≡ column → all_kept (slice_set tables at (with_stored_column c t)) ≡ store terms (Alter x t.number statement rewritten ∷ past)
   store_after_alter at t c statement rewritten name column legal is there in_hand maker column_is =
-      let up : Ascend 0 (length past) (all_kept tables) = rw is (store_ascends scripts past legal) in
+      let up : Ascend 0 (length past) (all_kept tables) = rw is (store_ascends terms past legal) in
       kept_slot_set (length past) tables at t c x name column up there maker column_is ∙ rw (in_hand, is) refl
 
 -- ---- who is in the way of a name
@@ -214,14 +214,14 @@ makers_all P (t ∷ tables) name each = by_test (same_name t.name name) (makers_
   by_test true rest = (each.0.0, rest)
   by_test false rest = rest
 
-pub makers_began_of : (scripts : Scripts) (past : Past) (name : List ℕ) → Legal scripts past → Each (Began past) (makers past name)
-makers_began_of scripts past name legal = rw (makers_stored scripts past name) (makers_all (Began past) (store scripts past) name (makers_began scripts past legal))
+pub makers_began_of : (terms : Terms) (past : Past) (name : List ℕ) → Legal terms past → Each (Began past) (makers past name)
+makers_began_of terms past name legal = rw (makers_stored terms past name) (makers_all (Began past) (store terms past) name (makers_began terms past legal))
 
 -- what is found among the open transactions is what is in the way of the name
-pub taker_is : (scripts : Scripts) (past : Past) (tables : List StoredTable) (x : ℕ) (xacts : List (Option ℕ)) (name : List ℕ) → Legal scripts past → all_kept tables ≡ store scripts past → ((y : ℕ) → is_start past y ≡ true → is_among xacts y ≡ is_open (fate past y)) → first_among x xacts (makers_in tables name) ≡ first_open past x (makers past name)
-taker_is scripts past tables x xacts name legal is agree =
-    let kept : makers_in tables name ≡ makers past name = makers_kept tables name ∙ rw is (sym (makers_stored scripts past name)) in
-    let began : Each (Began past) (makers past name) = makers_began_of scripts past name legal in
+pub taker_is : (terms : Terms) (past : Past) (tables : List StoredTable) (x : ℕ) (xacts : List (Option ℕ)) (name : List ℕ) → Legal terms past → all_kept tables ≡ store terms past → ((y : ℕ) → is_start past y ≡ true → is_among xacts y ≡ is_open (fate past y)) → first_among x xacts (makers_in tables name) ≡ first_open past x (makers past name)
+taker_is terms past tables x xacts name legal is agree =
+    let kept : makers_in tables name ≡ makers past name = makers_kept tables name ∙ rw is (sym (makers_stored terms past name)) in
+    let began : Each (Began past) (makers past name) = makers_began_of terms past name legal in
     rw kept (first_agrees past x xacts (makers past name) (each_more (Began past) (λ (y : ℕ). is_among xacts y ≡ is_open (fate past y)) (makers past name) agree began))
 
 -- ---- which transactions are open
@@ -242,12 +242,12 @@ among_none (own ∷ xacts) y not_at = rw (other own (not_at zero), among_none xa
   other (Some z) not_own = ne_eqb z y (λ e. not_own (ap Some e))
 
 -- the sessions' transactions are the open ones
-pub among_open : (scripts : Scripts) (past : Past) (xacts : List (Option ℕ)) → Legal scripts past → ((s : ℕ) → get_or xacts s None ≡ xact_of past s) → (y : ℕ) → is_start past y ≡ true → is_among xacts y ≡ is_open (fate past y)
-among_open scripts past xacts legal mirrors y began = by_fate (fate past y) refl where
+pub among_open : (terms : Terms) (past : Past) (xacts : List (Option ℕ)) → Legal terms past → ((s : ℕ) → get_or xacts s None ≡ xact_of past s) → (y : ℕ) → is_start past y ≡ true → is_among xacts y ≡ is_open (fate past y)
+among_open terms past xacts legal mirrors y began = by_fate (fate past y) refl where
   not_its : (F : Fate) → fate past y ≡ F → (F ≡ Open → ⊥) → is_among xacts y ≡ false
-  not_its F is not_open = among_none xacts y (λ s its. not_open (sym is ∙ (xact_is scripts past s y legal (sym (mirrors s) ∙ its)).undecided))
+  not_its F is not_open = among_none xacts y (λ s its. not_open (sym is ∙ (xact_is terms past s y legal (sym (mirrors s) ∙ its)).undecided))
 
   by_fate : (F : Fate) → fate past y ≡ F → is_among xacts y ≡ is_open F
-  by_fate Open is = among_at xacts (session_of past y) y (mirrors (session_of past y) ∙ open_own scripts past y legal began is)
+  by_fate Open is = among_at xacts (session_of past y) y (mirrors (session_of past y) ∙ open_own terms past y legal began is)
   by_fate Committed is = not_its Committed is (λ (e : ◌≡◌ {A = Fate} Committed Open). cc)
   by_fate Aborted is = not_its Aborted is (λ (e : ◌≡◌ {A = Fate} Aborted Open). cc)

@@ -7,7 +7,7 @@ use Rattle.std.proofs.lemmas.Option.{slice_get_within}
 use Rattle.al_modes.specs.declared.level.Level.TheVariants as levels
 use Rattle.al_history.specs.declared.entry.Entry.{Entry}
 use Rattle.al_history.specs.declared.entry.Entry.TheVariants.{Start}
-use Rattle.al_history.specs.declared.statement.Scripts.{Scripts}
+use Rattle.al_history.specs.declared.statement.Terms.{Terms}
 use Rattle.al_history.specs.Past.{Past, past_of}
 use Rattle.al_history.specs.Hand.{hand, statement_of}
 use Rattle.al_history.specs.Locks.{waiting}
@@ -30,11 +30,11 @@ use Rattle.al_engine.proofs.Wanted.{free_asks, others_still, wants_all}
 -- ---- a session that can go on
 
 -- what is known of it
-pub record IsGoing (scripts : Scripts) (past : Past) (s : ℕ) (seat : Session) : Type 0 where
+pub record IsGoing (terms : Terms) (past : Past) (s : ℕ) (seat : Session) : Type 0 where
   pub block : ℕ
   pub busy : seat.hand ≡ Some block
   pub outline : IsOutlined (doing past s) seat
-  pub under : IsUnderway scripts (doing past s) block seat.looked
+  pub under : IsUnderway terms (doing past s) block seat.looked
   pub free : asks s (waiting past) ≡ false
 
 and_both : (a b : Bool) → (a && b) ≡ true → (a ≡ true) × (b ≡ true)
@@ -46,12 +46,12 @@ not_not : (b : Bool) → not b ≡ true → b ≡ false
 not_not true is = absurd cc
 not_not false is = refl
 
-pub going : (scripts : Scripts) (p : Parts) (s : ℕ) (seat : Session) → IsKept scripts p → slice_get p.sessions s ≡ Some seat → can_go_on (past_of p.journal) s ≡ true → IsGoing scripts (past_of p.journal) s seat
-going scripts p s seat kept there goes =
-    let mirror : IsMirror scripts (doing (past_of p.journal) s) seat = kept.mirrors s seat there in
+pub going : (terms : Terms) (p : Parts) (s : ℕ) (seat : Session) → IsKept terms p → slice_get p.sessions s ≡ Some seat → can_go_on (past_of p.journal) s ≡ true → IsGoing terms (past_of p.journal) s seat
+going terms p s seat kept there goes =
+    let mirror : IsMirror terms (doing (past_of p.journal) s) seat = kept.mirrors s seat there in
     let both = and_both (is_some (hand (past_of p.journal) s)) (not (is_blocked (past_of p.journal) s)) goes in
     by_hand mirror seat.hand refl (rw mirror.outline.hand_is at both.0) (free_asks (past_of p.journal) s kept.wants_so kept.clear.settled (not_not (is_blocked (past_of p.journal) s) both.1)) where
-      by_hand : IsMirror scripts (doing (past_of p.journal) s) seat → (o : Option ℕ) → seat.hand ≡ o → is_some o ≡ true → asks s (waiting (past_of p.journal)) ≡ false → IsGoing scripts (past_of p.journal) s seat
+      by_hand : IsMirror terms (doing (past_of p.journal) s) seat → (o : Option ℕ) → seat.hand ≡ o → is_some o ≡ true → asks s (waiting (past_of p.journal)) ≡ false → IsGoing terms (past_of p.journal) s seat
       by_hand mirror None busy some free = absurd cc
       by_hand mirror (Some block) busy some free = record { block = block; busy = busy; outline = mirror.outline; under = mirror.underway block busy; free = free }
 
@@ -71,39 +71,39 @@ begun x seat = record seat { xact = Some x; wants = None }
 light_begins : (x : ℕ) (seat : Session) (block : ℕ) → seat.hand ≡ Some block → seat.xact ≡ None → light_of (begun x seat) + 1 ≡ light_of seat
 light_begins x seat block busy none = rw (busy, none) (omega arith)
 
-module _ (scripts : Scripts) (p : Parts) (s x : ℕ) (seat : Session) (kept : IsKept scripts p) (there : slice_get p.sessions s ≡ Some seat) (can : can_go_on (past_of p.journal) s ≡ true) (needs : option_map (starts (state_of seat.block)) (statement_of scripts seat.hand 0) ≡ Some true) (none_open : seat.xact ≡ None) where
+module _ (terms : Terms) (p : Parts) (s x : ℕ) (seat : Session) (kept : IsKept terms p) (there : slice_get p.sessions s ≡ Some seat) (can : can_go_on (past_of p.journal) s ≡ true) (needs : option_map (starts (state_of seat.block)) (statement_of terms seat.hand 0) ≡ Some true) (none_open : seat.xact ≡ None) where
   abbrev old : Past
   old = past_of p.journal
 
   abbrev e : Entry
   e = Start s levels.ReadCommitted
 
-  going_so : IsGoing scripts old s seat
-  going_so = going scripts p s seat kept there can
+  going_so : IsGoing terms old s seat
+  going_so = going terms p s seat kept there can
 
   pub begins_room : 0 < p.journal.room
   begins_room =
-      let g : IsGoing scripts old s seat = going_so in
+      let g : IsGoing terms old s seat = going_so in
       let reserved : light p.sessions + length p.locks.locks.waiting ≤ p.journal.room + 0 = kept.sound.reserved in
       omega (arith, reserved, light_at p.sessions s seat there, light_begins x seat g.block g.busy none_open)
 
-  start_comes : MayCome scripts old e
+  start_comes : MayCome terms old e
   start_comes =
-      let g : IsGoing scripts old s seat = going_so in
-      comes scripts old kept.sound.legal kept.clear.settled e (record { statement = rw (g.outline.block_is, g.outline.hand_is, g.under.none_done) needs; none_open = g.outline.xact_is ∙ none_open; read_committed = refl }) (rw kept.clear.owed_is tt)
+      let g : IsGoing terms old s seat = going_so in
+      comes terms old kept.sound.legal kept.clear.settled e (record { statement = rw (g.outline.block_is, g.outline.hand_is, g.under.none_done) needs; none_open = g.outline.xact_is ∙ none_open; read_committed = refl }) (rw kept.clear.owed_is tt)
 
   own_begins : doing (e ∷ old) s ≡ moved old e (doing old s)
   own_begins = own_moves old s e refl
 
   goes_then : can_go_on (e ∷ old) s ≡ true
   goes_then =
-      let g : IsGoing scripts old s seat = going_so in
-      goes scripts (e ∷ old) s (moved old e (doing old s)) (start_comes, kept.sound.legal) own_begins kept.clear.settled g.block (g.outline.hand_is ∙ g.busy) refl
+      let g : IsGoing terms old s seat = going_so in
+      goes terms (e ∷ old) s (moved old e (doing old s)) (start_comes, kept.sound.legal) own_begins kept.clear.settled g.block (g.outline.hand_is ∙ g.busy) refl
 
-  pub begins_went : (new : Past) → new ≡ e ∷ old → Went scripts s old new false (driver old) (IsLeast old s)
-  begins_went new noted = rw noted (stage_went scripts s old (e ∷ old) 0 (stage_on scripts s old old 0 0 e (stage_begins scripts s old kept.sound.legal kept.clear.settled kept.clear.owed_is) (step_start s levels.ReadCommitted) refl start_comes kept.clear.settled refl goes_then (omega arith)) (omega arith) (omega arith))
+  pub begins_went : (new : Past) → new ≡ e ∷ old → Went terms s old new false (driver old) (IsLeast old s)
+  begins_went new noted = rw noted (stage_went terms s old (e ∷ old) 0 (stage_on terms s old old 0 0 e (stage_begins terms s old kept.sound.legal kept.clear.settled kept.clear.owed_is) (step_start s levels.ReadCommitted) refl start_comes kept.clear.settled refl goes_then (omega arith)) (omega arith) (omega arith))
 
-  module _ (q : Parts) (noted : past_of q.journal ≡ e ∷ old) (at : x ≡ length old) (room : q.journal.room + 1 ≡ p.journal.room) (sessions : q.sessions ≡ slice_set p.sessions s (begun x seat)) (tables : q.tables ≡ p.tables) (locks : q.locks ≡ p.locks) (marks : q.committed ≡ p.committed ++ replicate (x + 1 - length p.committed) false) where
+  module _ (q : Parts) (noted : past_of q.journal ≡ e ∷ old) (at : x ≡ length old) (room : q.journal.room + 1 ≡ p.journal.room) (sessions : q.sessions ≡ slice_set p.sessions s (begun x seat)) (tables : q.tables ≡ p.tables) (locks : q.locks ≡ p.locks) (marks : q.committed ≡ p.committed ++ replicate (x + 1 - length p.committed) false) (weight_same : q.weight ≡ p.weight) where
     length_so : length q.sessions ≡ length p.sessions
     length_so = rw sessions (length_set p.sessions s (begun x seat))
 
@@ -125,29 +125,29 @@ module _ (scripts : Scripts) (p : Parts) (s x : ℕ) (seat : Session) (kept : Is
           omega (arith, far)
       by_place (inr away) = omega (arith, more, kept.sound.marked r y t away.1 own)
 
-    mirrors_so : (r : ℕ) (t : Session) → slice_get q.sessions r ≡ Some t → IsMirror scripts (doing (e ∷ old) r) t
+    mirrors_so : (r : ℕ) (t : Session) → slice_get q.sessions r ≡ Some t → IsMirror terms (doing (e ∷ old) r) t
     mirrors_so r t is = by_place (got_set p.sessions s r (begun x seat) t (rw sessions at is)) where
-      own : IsMirror scripts (doing (e ∷ old) s) (begun x seat)
+      own : IsMirror terms (doing (e ∷ old) s) (begun x seat)
       own =
-          let was : IsMirror scripts (doing old s) seat = kept.mirrors s seat there in
+          let was : IsMirror terms (doing old s) seat = kept.mirrors s seat there in
           rw (own_begins, at) (record {
             outline = record { hand_is = was.outline.hand_is; xact_is = refl; block_is = was.outline.block_is; closed_is = was.outline.closed_is; wants_is = refl };
-            underway = λ block busy. let u : IsUnderway scripts (doing old s) block seat.looked = was.underway block busy in record { none_done = u.none_done; none_refused = u.none_refused; no_acts = u.no_acts; look_is = u.look_is; only_creates = u.only_creates; has_one = u.has_one; has_no_more = u.has_no_more };
+            underway = λ block busy. let u : IsUnderway terms (doing old s) block seat.looked = was.underway block busy in record { none_done = u.none_done; none_refused = u.none_refused; no_acts = u.no_acts; look_is = u.look_is; only_creates = u.only_creates; has_one = u.has_one; has_no_more = u.has_no_more };
           })
 
-      by_place : ((s ≡ r) × (begun x seat ≡ t)) ⊎ (((s == r) ≡ false) × (slice_get p.sessions r ≡ Some t)) → IsMirror scripts (doing (e ∷ old) r) t
+      by_place : ((s ≡ r) × (begun x seat ≡ t)) ⊎ (((s == r) ≡ false) × (slice_get p.sessions r ≡ Some t)) → IsMirror terms (doing (e ∷ old) r) t
       by_place (inl here) = rw (← here.0, ← here.1) own
-      by_place (inr away) = rw (others_stay scripts old s r kept.sound.legal away.0 e refl) (kept.mirrors r t away.1)
+      by_place (inr away) = rw (others_stay terms old s r kept.sound.legal away.0 e refl) (kept.mirrors r t away.1)
 
     reserved_so : light q.sessions + length q.locks.locks.waiting ≤ q.journal.room + 0
     reserved_so =
-        let g : IsGoing scripts old s seat = going_so in
+        let g : IsGoing terms old s seat = going_so in
         let reserved : light p.sessions + length p.locks.locks.waiting ≤ p.journal.room + 0 = kept.sound.reserved in
         let set : light q.sessions + light_of seat ≡ light p.sessions + light_of (begun x seat) = rw sessions (light_set p.sessions s seat (begun x seat) there) in
         let less : light_of (begun x seat) + 1 ≡ light_of seat = light_begins x seat g.block g.busy none_open in
         rw locks (omega (arith, reserved, set, less, room))
 
-    sound_so : IsSound scripts q 0
+    sound_so : IsSound terms q 0
     sound_so = record {
       legal = rw noted (start_comes, kept.sound.legal);
       count = length_so ∙ kept.sound.count;
@@ -158,13 +158,14 @@ module _ (scripts : Scripts) (p : Parts) (s x : ℕ) (seat : Session) (kept : Is
       table_count = rw locks kept.sound.table_count;
       tied = rw (noted, locks) (record { waits = kept.sound.tied.waits; holds = kept.sound.tied.holds; apart = kept.sound.tied.apart });
       queues = rw locks kept.sound.queues;
+      weighed = rw noted (weight_same ∙ kept.sound.weighed);
       reserved = reserved_so;
       single = kept.sound.single;
     }
 
-    pub begins_kept : IsKept scripts q
+    pub begins_kept : IsKept terms q
     begins_kept =
-        let g : IsGoing scripts old s seat = going_so in
+        let g : IsGoing terms old s seat = going_so in
         record {
           sound = sound_so;
           wants_so = rw noted (wants_all (e ∷ old) s g.free (others_still old s e refl refl (λ r. refl) (λ c there other. kept.wants_so c there)));
@@ -174,5 +175,5 @@ module _ (scripts : Scripts) (p : Parts) (s x : ℕ) (seat : Session) (kept : Is
 
 -- ---- whose statement is in hand
 
-pub statement_there : (scripts : Scripts) (p : Parts) (s : ℕ) (seat : Session) → IsKept scripts p → slice_get p.sessions s ≡ Some seat → can_go_on (past_of p.journal) s ≡ true → IsSome (statement_of scripts seat.hand 0)
-statement_there scripts p s seat kept there can = let g : IsGoing scripts (past_of p.journal) s seat = going scripts p s seat kept there can in rw g.busy g.under.has_one
+pub statement_there : (terms : Terms) (p : Parts) (s : ℕ) (seat : Session) → IsKept terms p → slice_get p.sessions s ≡ Some seat → can_go_on (past_of p.journal) s ≡ true → IsSome (statement_of terms seat.hand 0)
+statement_there terms p s seat kept there can = let g : IsGoing terms (past_of p.journal) s seat = going terms p s seat kept there can in rw g.busy g.under.has_one

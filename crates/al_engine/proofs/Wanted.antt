@@ -9,7 +9,7 @@ use Rattle.al_history.specs.declared.entry.Want.{Want}
 use Rattle.al_history.specs.declared.entry.Want.TheVariants as wants
 use Rattle.al_history.specs.declared.entry.Entry.{Entry}
 use Rattle.al_history.specs.declared.entry.Entry.TheVariants.{Wait, Lock, Commit, Abort}
-use Rattle.al_history.specs.declared.statement.Scripts.{Scripts}
+use Rattle.al_history.specs.declared.statement.Terms.{Terms}
 use Rattle.al_history.specs.Past.{Past}
 use Rattle.al_history.specs.Hand.{session_of}
 use Rattle.al_history.specs.Locks.{Claim, claim, same_claim, without, waiting, grantable, is_settled, is_held}
@@ -142,8 +142,8 @@ pub wants_aborted : (past : Past) (x : ℕ) → OthersWant (session_of past x) p
 wants_aborted past x so c there = left_wants past (session_of past x) c so there
 
 -- locks of requests that waited come
-pub wants_come : (scripts : Scripts) (past : Past) (xact : ℕ → ℕ) (after : Locks) → HaveCome scripts xact after.granted past after → WantsSo past → WantsSo (locked_by xact after.granted past)
-wants_come scripts past xact after all so c there =
+pub wants_come : (terms : Terms) (past : Past) (xact : ℕ → ℕ) (after : Locks) → HaveCome terms xact after.granted past after → WantsSo past → WantsSo (locked_by xact after.granted past)
+wants_come terms past xact after all so c there =
     let before = all.still c there in
     all.wants c.session ∙ rw before.1 (so c before.0)
 

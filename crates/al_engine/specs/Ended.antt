@@ -4,7 +4,7 @@ use Rattle.al_history.specs.declared.entry.Entry.TheVariants.{Done}
 use Rattle.al_history.specs.declared.entry.Reply.{Reply}
 use Rattle.al_history.specs.declared.entry.Reply.TheVariants as replies
 use Rattle.al_history.specs.declared.entry.Tag.TheVariants as tags
-use Rattle.al_history.specs.declared.statement.Scripts.{Scripts}
+use Rattle.al_history.specs.declared.statement.Terms.{Terms}
 use Rattle.al_history.specs.Past.{Past, past_of}
 use Rattle.al_history.specs.Hand.{hand, dones, statement_of, xact_of, if_no_block, closed, block_state, block_after}
 use Rattle.al_history.specs.Locks.{waiting, is_settled}
@@ -19,11 +19,11 @@ use Rattle.al_engine.specs.Sessions.{state_of, light_of}
 use Rattle.al_engine.specs.Kept.{Parts, IsAmid}
 
 -- what the session is doing by then: the transaction that is open is no implicit one once the statement is done
-pub record IsLast (scripts : Scripts) (past : Past) (s : ℕ) (seat : Session) (xact : Option ℕ) (reply : Reply) : Type 0 where
+pub record IsLast (terms : Terms) (past : Past) (s : ℕ) (seat : Session) (xact : Option ℕ) (reply : Reply) : Type 0 where
   pub block : ℕ
   pub busy : hand past s ≡ Some block
   pub none_done : dones past s ≡ 0
-  pub last : statement_of scripts (Some block) 1 ≡ None
+  pub last : statement_of terms (Some block) 1 ≡ None
   pub xact_is : xact_of past s ≡ xact
   pub block_is : block_state past s ≡ state_of seat.block
   pub closed_is : closed past s ≡ seat.closed
@@ -34,14 +34,14 @@ abbrev pub stopped : Session → Option ℕ → Block → Session
 stopped seat xact block = record { hand = None; xact = xact; block = block; looked = false; wants = None; closed = seat.closed }
 
 -- in the middle of a call that began at an old past, the statement can be done with this reply
-pub record IsOver (scripts : Scripts) (m : Parts) (s used : ℕ) (t seat : Session) (old : Past) (xact : Option ℕ) (reply : Reply) : Type 0 where
-  pub amid : IsAmid scripts m s used
+pub record IsOver (terms : Terms) (m : Parts) (s used : ℕ) (t seat : Session) (old : Past) (xact : Option ℕ) (reply : Reply) : Type 0 where
+  pub amid : IsAmid terms m s used
   pub there : slice_get m.sessions s ≡ Some t
-  pub is_last : IsLast scripts (past_of m.journal) s seat xact reply
+  pub is_last : IsLast terms (past_of m.journal) s seat xact reply
   pub settled : is_settled (past_of m.journal) ≡ true
   pub unasked : asks s (waiting (past_of m.journal)) ≡ false
-  pub comes : MayCome scripts (past_of m.journal) (Done s reply)
-  pub tail : Tail scripts s old (Done s reply ∷ past_of m.journal) false (driver old) (IsLeast old s)
+  pub comes : MayCome terms (past_of m.journal) (Done s reply)
+  pub tail : Tail terms s old (Done s reply ∷ past_of m.journal) false (driver old) (IsLeast old s)
   pub its : (x : ℕ) → xact ≡ Some x → t.xact ≡ Some x
   pub fits : (block : Block) → light_of (stopped seat xact block) + used + 2 ≤ light_of t
 
@@ -50,7 +50,7 @@ abbrev pub end_reply : Session → Bool → Reply
 end_reply seat commits = replies.Tag (cond commits (commit_tag (state_of seat.block)) tags.Rollback) 0
 
 -- the session has no open transaction any more, and COMMIT or ROLLBACK can be done
-pub record IsEnded (scripts : Scripts) (m : Parts) (s : ℕ) (seat : Session) (old : Past) (commits : Bool) : Type 0 where
+pub record IsEnded (terms : Terms) (m : Parts) (s : ℕ) (seat : Session) (old : Past) (commits : Bool) : Type 0 where
   pub used : ℕ
   pub t : Session
-  pub over : IsOver scripts m s used t seat old None (end_reply seat commits)
+  pub over : IsOver terms m s used t seat old None (end_reply seat commits)

@@ -1,10 +1,10 @@
 -- What the machine keeps true of its parts.
-use Rattle.std.specs.Prelude.{◌≡◌, ℕ, ◌+◌, ◌<◌, ◌≤◌, false, List, ◌∷◌, length, slice_get, Bool, Option, Some, None, IsSome, ◌==◌, true}
-use Rattle.al_history.specs.declared.statement.Scripts.{Scripts}
+use Rattle.std.specs.Prelude.{◌≡◌, ℕ, ◌+◌, ◌<◌, ◌≤◌, false, List, ◌∷◌, length, slice_get, Bool, cond, nat_le, Option, Some, None, IsSome, ◌==◌, true}
+use Rattle.al_history.specs.declared.statement.Terms.{Terms}
 use Rattle.al_history.specs.Kept.{Kept}
 use Rattle.al_history.specs.Past.{Past, past_of}
 use Rattle.al_history.specs.Hand.{hand, dones, refused, xact_of, look_of, acts_of, block_state, block_after, closed, statement_of}
-use Rattle.al_history.specs.Locks.{Claim, is_settled}
+use Rattle.al_history.specs.Locks.{Claim, grantable, is_settled}
 use Rattle.al_history.specs.Store.{store}
 use Rattle.al_history.specs.Tail.{owed, Follows}
 use Rattle.al_history.specs.Legal.{Legal}
@@ -16,11 +16,13 @@ use Rattle.al_engine.specs.declared.stored.StoredTable.{StoredTable}
 use Rattle.al_engine.specs.declared.machine.Machine.{Machine}
 use Rattle.al_history.specs.declared.entry.Cause.{Cause}
 use Rattle.al_history.specs.declared.entry.Cause.TheVariants as causes
+use Rattle.al_history.specs.declared.entry.RunLimit.TheVariants as limits
 use Rattle.al_history.specs.declared.entry.Reply.{Reply}
 use Rattle.al_history.specs.declared.entry.Entry.TheVariants.{Refuse, End}
-use Rattle.al_history.specs.Cause.{cause_of}
+use Rattle.al_history.specs.Cause.{over, cause_of}
 use Rattle.al_history.specs.Need.{lacking}
 use Rattle.al_history.specs.Waits.{can_go_on}
+use Rattle.al_history.specs.Weight.{weight}
 use Rattle.al_history.specs.Rules.{Answers}
 use Rattle.al_engine.specs.Ran.{AreSingle, IsAborted}
 use Rattle.al_engine.specs.LockTie.{IsTied, WantsSo, OthersWant}
@@ -34,45 +36,47 @@ pub record Parts : Type 0 where
   pub tables : List StoredTable
   pub locks : KeptLocks
   pub committed : List Bool
+  pub weight : ℕ
 
 abbrev pub parts_of : Machine → Parts
-parts_of m = record { journal = m.journal; sessions = m.sessions.items; tables = m.tables.items; locks = m.locks; committed = m.committed.items }
+parts_of m = record { journal = m.journal; sessions = m.sessions.items; tables = m.tables.items; locks = m.locks; committed = m.committed.items; weight = m.weight }
 
 abbrev pub past_in : Machine → Past
 past_in m = past_of m.journal
 
 -- The journal is legal so far, and each part but the records of the sessions is what it stands for; so many light entries more than
 -- the sessions' records say have been used.
-pub record IsSound (scripts : Scripts) (p : Parts) (used : ℕ) : Type 0 where
-  pub legal : Legal scripts (past_of p.journal)
-  pub count : length p.sessions ≡ scripts.sessions
+pub record IsSound (terms : Terms) (p : Parts) (used : ℕ) : Type 0 where
+  pub legal : Legal terms (past_of p.journal)
+  pub count : length p.sessions ≡ terms.scripts.sessions
   pub beyond : (r : ℕ) → length p.sessions ≤ r → hand (past_of p.journal) r ≡ None
-  pub stored : all_kept p.tables ≡ store scripts (past_of p.journal)
+  pub stored : all_kept p.tables ≡ store terms (past_of p.journal)
   pub tells : TellsCommitted (past_of p.journal) p.committed
   pub marked : (r x : ℕ) (t : Session) → slice_get p.sessions r ≡ Some t → t.xact ≡ Some x → x < length p.committed
-  pub table_count : p.locks.sessions ≡ scripts.sessions
+  pub table_count : p.locks.sessions ≡ terms.scripts.sessions
   pub tied : IsTied (past_of p.journal) p.locks.locks
   pub queues : IsSettled p.locks.locks
+  pub weighed : p.weight ≡ weight (past_of p.journal)
   pub reserved : light p.sessions + length p.locks.locks.waiting ≤ p.journal.room + used
-  pub single : AreSingle scripts
+  pub single : AreSingle terms.scripts
 
 -- In the middle of a call for the session s, also the records of the other sessions are what they stand for.
-pub record IsAmid (scripts : Scripts) (p : Parts) (s used : ℕ) : Type 0 where
-  pub sound : IsSound scripts p used
+pub record IsAmid (terms : Terms) (p : Parts) (s used : ℕ) : Type 0 where
+  pub sound : IsSound terms p used
   pub others_want : OthersWant s (past_of p.journal)
-  pub others : (r : ℕ) (t : Session) → (s == r) ≡ false → slice_get p.sessions r ≡ Some t → IsMirror scripts (doing (past_of p.journal) r) t
+  pub others : (r : ℕ) (t : Session) → (s == r) ≡ false → slice_get p.sessions r ≡ Some t → IsMirror terms (doing (past_of p.journal) r) t
 
 -- no statement is in its tail: nothing is owed, and no waiting request can be granted
-pub record IsClear (scripts : Scripts) (past : Past) : Type 0 where
-  pub owed_is : owed scripts past ≡ None
+pub record IsClear (terms : Terms) (past : Past) : Type 0 where
+  pub owed_is : owed terms past ≡ None
   pub settled : is_settled past ≡ true
 
 -- between two calls
-pub record IsKept (scripts : Scripts) (p : Parts) : Type 0 where
-  pub sound : IsSound scripts p 0
+pub record IsKept (terms : Terms) (p : Parts) : Type 0 where
+  pub sound : IsSound terms p 0
   pub wants_so : WantsSo (past_of p.journal)
-  pub mirrors : (r : ℕ) (t : Session) → slice_get p.sessions r ≡ Some t → IsMirror scripts (doing (past_of p.journal) r) t
-  pub clear : IsClear scripts (past_of p.journal)
+  pub mirrors : (r : ℕ) (t : Session) → slice_get p.sessions r ≡ Some t → IsMirror terms (doing (past_of p.journal) r) t
+  pub clear : IsClear terms (past_of p.journal)
 
 -- a call for which there was no memory: each part but the places that are reserved is as it was
 pub record IsSame (old new : Parts) : Type 0 where
@@ -82,32 +86,37 @@ pub record IsSame (old new : Parts) : Type 0 where
   pub tables : new.tables ≡ old.tables
   pub locks : new.locks ≡ old.locks
   pub committed : new.committed ≡ old.committed
+  pub weight : new.weight ≡ old.weight
 
 -- ---- how a statement goes on
 
--- the statement in hand lacks this lock, and can ask for it
-pub record Lacks (scripts : Scripts) (p : Parts) (s : ℕ) (t : Session) (x : ℕ) (c : Claim) : Type 0 where
-  pub kept : IsKept scripts p
+-- an entry of this weight would bring what is noted so far above a limit
+abbrev pub over_by : ℕ → ℕ → ℕ → Option Cause
+over_by limit so_far next = cond (nat_le (so_far + next) limit) None (Some (causes.Limit limits.Journal (so_far + next)))
+
+-- the statement in hand lacks this lock, and can ask for it, where the journal may weigh so much more
+pub record Lacks (terms : Terms) (p : Parts) (s : ℕ) (t : Session) (x : ℕ) (c : Claim) : Type 0 where
+  pub kept : IsKept terms p
   pub seat : slice_get p.sessions s ≡ Some t
   pub goes : can_go_on (past_of p.journal) s ≡ true
   pub in_xact : t.xact ≡ Some x
   pub before_look : look_of (past_of p.journal) s ≡ None
   pub own : c.session ≡ s
-  pub lacks : lacking scripts (past_of p.journal) x ≡ Some c
-  pub not_refused : cause_of scripts (past_of p.journal) s ≡ None
+  pub lacks : lacking terms (past_of p.journal) x ≡ Some c
+  pub judged : cause_of terms (past_of p.journal) s ≡ over terms (past_of p.journal) (cond (grantable (past_of p.journal) c) 1 2)
 
 -- ---- how a statement ends
 
 -- the statement in hand has acted, or needs nothing more: it can be done with this reply, and its step and transaction go on by it
-pub record CanBeDone (scripts : Scripts) (past : Past) (s : ℕ) (t : Session) (reply : Reply) : Type 0 where
+pub record CanBeDone (terms : Terms) (past : Past) (s : ℕ) (t : Session) (reply : Reply) : Type 0 where
   pub outline : IsOutlined (doing past s) (record t { wants = None })
   pub in_step : IsSome t.hand
   pub in_xact : IsSome t.xact
   pub none_done : dones past s ≡ 0
   pub none_refused : refused past s ≡ false
-  pub answers : Answers (statement_of scripts t.hand 0) (acts_of past s) t.xact (state_of t.block) reply
+  pub answers : Answers (statement_of terms t.hand 0) (acts_of past s) t.xact (state_of t.block) reply
   pub keeps_block : block_after reply (state_of t.block) ≡ state_of t.block
-  pub last : statement_of scripts t.hand 1 ≡ None
+  pub last : statement_of terms t.hand 1 ≡ None
 
 -- how many light entries a refusal finds used: the Cancel, where the step was cancelled
 abbrev pub used_by : Cause → ℕ
@@ -115,15 +124,15 @@ used_by (causes.Cancelled entry) = 1
 used_by cause = 0
 
 -- the statement in hand has to be refused for this cause
-pub record CanBeRefused (scripts : Scripts) (past : Past) (s : ℕ) (t : Session) (cause : Cause) : Type 0 where
+pub record CanBeRefused (terms : Terms) (past : Past) (s : ℕ) (t : Session) (cause : Cause) : Type 0 where
   pub hand_is : hand past s ≡ t.hand
   pub xact_is : xact_of past s ≡ t.xact
   pub block_is : block_state past s ≡ state_of t.block
   pub closed_is : closed past s ≡ t.closed
   pub in_step : IsSome t.hand
-  pub first_true : cause_of scripts past s ≡ Some cause
+  pub first_true : cause_of terms past s ≡ Some cause
   pub settled : is_settled past ≡ true
-  pub follows : Follows (owed scripts past) (Refuse s cause)
+  pub follows : Follows (owed terms past) (Refuse s cause)
 
 -- the entries of a refusal: the Refuse, the Abort of an open transaction with the locks that it frees, and the End
 pub record IsRefused (old new : Past) (s : ℕ) (x : Option ℕ) (cause : Cause) : Type 0 where

@@ -3,5 +3,7 @@ pub mod Stored
 pub mod Sessions
 pub mod LockTie
 pub mod Kept
+pub mod Using
 pub mod Ended
 pub mod Closing
+pub mod Creating

@@ -10,6 +10,7 @@ use Rattle.al_history.specs.declared.statement.Statement.{Statement}
 use Rattle.al_history.specs.declared.statement.Statement.TheVariants as statements
 use Rattle.al_history.specs.declared.statement.ScriptBlock.{ScriptBlock}
 use Rattle.al_history.specs.declared.statement.Scripts.{Scripts}
+use Rattle.al_history.specs.declared.statement.Terms.{Terms}
 use Rattle.al_history.specs.Past.{Past}
 use Rattle.al_history.specs.Hand.{hand, xact_of, closed}
 use Rattle.al_history.specs.Locks.{is_grant}
@@ -23,12 +24,12 @@ use Rattle.al_engine.specs.declared.told.Told.{Told}
 use Rattle.al_engine.specs.declared.told.Told.TheVariants as tells
 
 pub record Ran : Type 0 where
-  pub scripts : Scripts
+  pub terms : Terms
   pub past : Past
 
 -- the journal is a legal history
 abbrev pub IsLegalRun : Ran → Type 0
-IsLegalRun ran = Legal ran.scripts ran.past
+IsLegalRun ran = Legal ran.terms ran.past
 
 -- a block is of one of the sessions, and has one statement
 pub record IsSingle (sessions : ℕ) (block : ScriptBlock) : Type 0 where
@@ -52,7 +53,7 @@ failed_after spec failed block refused = cond refused (or_else failed (of_setup 
 -- session, but for locks of requests that waited; and it tells whether the step was refused. Where the session's step has come
 -- to its end it has none in hand any more.
 pub record GoesOn (old new : Ran) (session : ℕ) (refused : Bool) : Type 0 where
-  pub scripts : new.scripts ≡ old.scripts
+  pub terms : new.terms ≡ old.terms
   pub in_step : IsSome (hand old.past session)
   pub extends : Extends session old.past new.past
   pub own : (hand new.past session ≡ None) ⊎ (hand new.past session ≡ hand old.past session)
@@ -71,7 +72,7 @@ pub record WentOn (old new : Ran) (session from to : ℕ) (refused : Bool) : Typ
   pub some : from < to
   pub one_row : row_entries new.past ≤ row_entries old.past + 1
   pub driven : driver new.past ≡ driver old.past
-  pub in_turn : IsLeast old.past session → Driven old.scripts old.past → Driven new.scripts new.past
+  pub in_turn : IsLeast old.past session → Driven old.terms old.past → Driven new.terms new.past
 
 -- a turn waits exactly where somebody blocks the session's step in hand
 pub record IsWaitingTurn (old new : Ran) (session : ℕ) : Type 0 where
@@ -114,7 +115,7 @@ pub record IsCancelled (old new : Ran) (session : ℕ) : Type 0 where
   pub is : new.past ≡ End session ∷ aborted
   pub ended : hand new.past session ≡ None
   pub driven : driver new.past ≡ driver old.past ++ Cancel session ∷ []
-  pub in_turn : IsIdle old.past → Driven old.scripts old.past → Driven new.scripts new.past
+  pub in_turn : IsIdle old.past → Driven old.terms old.past → Driven new.terms new.past
 
 -- an idle session stays as it is
 abbrev pub Cancels : Ran → Ran → ℕ → Option ℕ → Type 0
@@ -123,7 +124,7 @@ Cancels old new session (Some block) = IsCancelled old new session
 
 -- The session is closed, after the Abort of its open transaction with the locks that it frees.
 pub record IsClosed (old new : Ran) (session : ℕ) : Type 0 where
-  pub scripts : new.scripts ≡ old.scripts
+  pub terms : new.terms ≡ old.terms
   pub aborted : Past
   pub is_aborted : IsAborted (xact_of old.past session) old.past aborted
   pub is : new.past ≡ Close session ∷ aborted
@@ -132,7 +133,7 @@ pub record IsClosed (old new : Ran) (session : ℕ) : Type 0 where
   pub closed_now : (s : ℕ) → closed new.past s ≡ cond (session == s) true (closed old.past s)
   pub failed : (spec : Spec) → failed_setup spec new.past ≡ failed_setup spec old.past
   pub driven : driver new.past ≡ driver old.past ++ Close session ∷ []
-  pub in_turn : Driven old.scripts old.past → Driven new.scripts new.past
+  pub in_turn : Driven old.terms old.past → Driven new.terms new.past
 
 -- whether a statement ends a block
 abbrev pub ends_block : Option Statement → Bool

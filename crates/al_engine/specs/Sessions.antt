@@ -3,7 +3,7 @@ use Rattle.std.specs.Prelude.{◌≡◌, ℕ, ◌+◌, ◌<◌, ◌&&◌, Bool, 
 use Rattle.std.specs.List.{list_any}
 use Rattle.al_history.specs.declared.entry.Want.{Want}
 use Rattle.al_history.specs.declared.entry.Want.TheVariants as wants
-use Rattle.al_history.specs.declared.statement.Scripts.{Scripts}
+use Rattle.al_history.specs.declared.statement.Terms.{Terms}
 use Rattle.al_history.specs.declared.statement.Statement.{Statement}
 use Rattle.al_history.specs.declared.statement.Statement.TheVariants as statements
 use Rattle.al_history.specs.Fate.{is_that}
@@ -30,14 +30,14 @@ MakesTable statement = ⊥
 
 -- A session's step in hand is under way: its statement, the only one of its block, has done nothing yet. Between two calls only a
 -- CREATE TABLE has looked: it waits.
-pub record IsUnderway (scripts : Scripts) (d : Doing) (block : ℕ) (looked : Bool) : Type 0 where
+pub record IsUnderway (terms : Terms) (d : Doing) (block : ℕ) (looked : Bool) : Type 0 where
   pub none_done : d.dones ≡ 0
   pub none_refused : d.refused ≡ false
   pub no_acts : d.acts ≡ []
   pub look_is : is_some d.look ≡ looked
-  pub only_creates : looked ≡ true → MakesTable (statement_of scripts (Some block) 0)
-  pub has_one : IsSome (statement_of scripts (Some block) 0)
-  pub has_no_more : statement_of scripts (Some block) 1 ≡ None
+  pub only_creates : looked ≡ true → MakesTable (statement_of terms (Some block) 0)
+  pub has_one : IsSome (statement_of terms (Some block) 0)
+  pub has_no_more : statement_of terms (Some block) 1 ≡ None
 
 -- what a session is doing by the journal, but for its step, is what is kept of it
 pub record IsOutlined (d : Doing) (t : Session) : Type 0 where
@@ -48,9 +48,9 @@ pub record IsOutlined (d : Doing) (t : Session) : Type 0 where
   pub wants_is : d.wants ≡ t.wants
 
 -- what a session is doing by the journal is what is kept of it
-pub record IsMirror (scripts : Scripts) (d : Doing) (t : Session) : Type 0 where
+pub record IsMirror (terms : Terms) (d : Doing) (t : Session) : Type 0 where
   pub outline : IsOutlined d t
-  pub underway : (block : ℕ) → t.hand ≡ Some block → IsUnderway scripts d block t.looked
+  pub underway : (block : ℕ) → t.hand ≡ Some block → IsUnderway terms d block t.looked
 
 -- the open transaction of a session
 abbrev pub xact_in : List Session → ℕ → ℕ

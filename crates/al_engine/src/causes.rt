@@ -1,6 +1,6 @@
 //! Why statements are refused.
 ghost use Rattle.std.specs.Prelude.{◌≡◌, [], Some, IfOk};
-ghost use Rattle.al_history.specs.Cause.{create_cause, twice_column, is_among, alter_cause, count_cause};
+ghost use Rattle.al_history.specs.Cause.{first_of, create_cause, twice_column, is_among, alter_cause, count_cause};
 ghost use Rattle.al_history.specs.Store.{shown};
 ghost use Rattle.al_engine.specs.Stored.{all_kept, seen_by, of_columns};
 
@@ -79,4 +79,14 @@ pub fn alter_cause(
     Ok(Some(Cause::TwiceColumn {
         name: column.name.copied(alloc)?,
     }))
+}
+
+/// The first of two causes.
+pub fn first_of(first: Option<Cause>, cause: Option<Cause>) -> Option<Cause>
+    ensures { result ≡ first_of first cause }
+{
+    match first {
+        None => cause,
+        found => found,
+    }
 }

@@ -1,7 +1,8 @@
-ghost use Rattle.std.specs.Prelude.{◌≡◌, ◌<◌, ◌∷◌, [], false, None, Some, IfOk, IfErr, OnOk, OnErr, IfSome, is_some, slice_get, option_map};
+ghost use Rattle.std.specs.Prelude.{◌≡◌, ◌<◌, ◌≤◌, ◌+◌, ◌∷◌, [], false, None, Some, IfOk, IfErr, OnOk, OnErr, IfSome, is_some, slice_get, option_map};
 ghost use Rattle.al_history.specs.declared.entry.Entry.TheVariants.{Give};
 ghost use Rattle.al_history.specs.Past.{past_of};
 ghost use Rattle.al_history.specs.Hand.{hand, in_hand, closed};
+ghost use Rattle.al_history.specs.Made.{row_entries};
 ghost use Rattle.al_engine.specs.Kept.{IsKept, parts_of, past_in};
 ghost use Rattle.al_engine.specs.Closing.{HasLeft};
 ghost use Rattle.al_engine.specs.Ran.{Ran, IsLegalRun, AreSingle, IsBusyFor, IsTurned, ends_block, Cancels, IsClosed, IsReady};
@@ -10,21 +11,22 @@ use crate::machine::{Machine, abort, refuse};
 use crate::sessions::{Session, first_ready, idle_sessions, is_held_up};
 use crate::told::{Busy, Told};
 use crate::turns::go_on;
-use al_history::{Cause, Entry, History, Scripts};
+use al_history::{Cause, Entry, History, Scripts, Terms};
 use al_queue::LockTable;
-use al_values::{Cant, NoMemory};
+use al_values::{Cant, NoMemory, Steps};
 use std::alloc::Global;
 use std::marker::Model;
+use std::sync::ledger::Ledger;
 
 // The light entries that are reserved for a step in hand of a session without an open transaction: a Start, a Cancel, the Refuse
 // or the Done, the end of the transaction and the End.
 const LIGHT_ENTRIES: usize = 5;
 
-/// The sessions of one run, over a database that is empty at first. Contracts see the blocks that may be given and the
-/// past of the journal. So far each block has one statement.
+/// The sessions of one run, over a database that is empty at first. Contracts see its terms, which are the blocks that may be
+/// given and the weight that the journal may have, and the past of the journal. So far each block has one statement.
 #[derive(Debug, Drop)]
 pub struct Engine {
-    scripts: Scripts,
+    terms: Terms,
     machine: Machine,
 }
 
@@ -35,37 +37,38 @@ impl Model for Engine {
 
     ghost Value = { Ran };
 
-    ghost view = { λ e. record { scripts = e.scripts; past = past_of e.machine.journal } };
+    ghost view = { λ e. record { terms = e.terms; past = past_of e.machine.journal } };
 
-    ghost invariant = { λ e. IsKept e.scripts (parts_of e.machine) };
+    ghost invariant = { λ e. IsKept e.terms (parts_of e.machine) };
 }
 
 impl Engine {
-    /// An empty database and an empty journal; all sessions are open and have no step in hand.
-    pub fn open(alloc: Global, scripts: Scripts) -> Result<Engine, NoMemory>
+    /// An empty database and an empty journal, whose entries may weigh so much; all sessions are open and have no step in hand.
+    pub fn open(alloc: Global, scripts: Scripts, weight: u32) -> Result<Engine, NoMemory>
         requires { AreSingle scripts }
-        ensures { IfOk result (λ engine. engine ≡ record { scripts = scripts; past = [] }) }
+        ensures { IfOk result (λ engine. engine ≡ record { terms = record { scripts = scripts; weight = weight }; past = [] }) }
     {
         let mut journal = History::new(alloc);
         journal.reserve(scripts.sessions as usize)?;
         let sessions = idle_sessions(alloc, scripts.sessions)?;
         let locks = LockTable::new(alloc, scripts.sessions)?;
         Ok(Engine {
-            scripts,
+            terms: Terms { scripts, weight },
             machine: Machine {
                 journal,
                 sessions,
                 tables: Vec::new(alloc),
                 locks,
                 committed: Vec::new(alloc),
+                weight: 0,
             },
         })
     }
 
     /// Gives a block to its session. It is busy where it has a step in hand.
     pub fn give(&mut self, alloc: Global, session: u32, block: u32) -> Result<(), Cant<Busy>>
-        requires known { session < self.old.scripts.sessions }
-        requires of_session { option_map (λ b. b.session) (slice_get self.old.scripts.blocks block) ≡ Some session }
+        requires known { session < self.old.terms.scripts.sessions }
+        requires of_session { option_map (λ b. b.session) (slice_get self.old.terms.scripts.blocks block) ≡ Some session }
         requires not_closed { closed self.old.past session ≡ false }
         ensures ok { OnOk result (self.new ≡ record self.old { past = Give session block ∷ self.old.past }) }
         ensures idle { OnOk result (hand self.old.past session ≡ None) }
@@ -90,12 +93,19 @@ impl Engine {
         Ok(())
     }
 
-    /// Goes on with the session's step in hand. A COMMIT or ROLLBACK takes no memory.
-    pub fn turn(&mut self, alloc: Global, session: u32) -> Result<Told, NoMemory>
-        requires known { session < self.old.scripts.sessions }
+    /// Goes on with the session's step in hand, and counts the row versions that it reads. A COMMIT or ROLLBACK takes no memory.
+    pub fn turn<L: Ledger>(
+        &mut self,
+        alloc: Global,
+        session: u32,
+        steps: &mut Steps<L>,
+    ) -> Result<Told, NoMemory>
+        requires known { session < self.old.terms.scripts.sessions }
         ensures ok { IfOk result (IsTurned self.old self.new session) }
         ensures err { OnErr result (self.new ≡ self.old) }
-        ensures light { OnErr result (ends_block (in_hand self.old.scripts self.old.past session) ≡ false) }
+        ensures light { OnErr result (ends_block (in_hand self.old.terms self.old.past session) ≡ false) }
+        ensures counted { steps.old ≤ steps.new }
+        ensures bounded { steps.new ≤ steps.old + row_entries self.old.past }
         ensures legal { IsLegalRun self.new }
     {
         let seat = self.machine.sessions[session as usize];
@@ -106,7 +116,7 @@ impl Engine {
             return Ok(Told::Waits);
         }
         let from = self.machine.journal.len();
-        let refused = go_on(alloc, &self.scripts, &mut self.machine, session, seat)?;
+        let refused = go_on(alloc, &self.terms, &mut self.machine, session, seat, steps)?;
         let to = self.machine.journal.len();
         Ok(Told::Went { from, to, refused })
     }
@@ -114,14 +124,14 @@ impl Engine {
     /// The least session that can go on with a step in hand. It takes no memory.
     pub fn ready(&self) -> Option<u32>
         ensures is { IsReady self.now.past result }
-        ensures known { IfSome result (λ session. session < self.now.scripts.sessions) }
+        ensures known { IfSome result (λ session. session < self.now.terms.scripts.sessions) }
     {
-        first_ready(&self.machine.sessions, self.scripts.sessions)
+        first_ready(&self.machine.sessions, self.terms.scripts.sessions)
     }
 
     /// Whether the session has a step in hand. It takes no memory.
     pub fn is_busy(&self, session: u32) -> bool
-        requires known { session < self.now.scripts.sessions }
+        requires known { session < self.now.terms.scripts.sessions }
         ensures { result ≡ is_some (hand self.now.past session) }
     {
         self.machine.sessions[session as usize].hand.is_some()
@@ -129,7 +139,7 @@ impl Engine {
 
     /// Ends the session's step in hand, where it has one, with 57014. It takes no memory.
     pub fn cancel(&mut self, session: u32)
-        requires known { session < self.old.scripts.sessions }
+        requires known { session < self.old.terms.scripts.sessions }
         ensures cancels { Cancels self.old self.new session (hand self.old.past session) }
         ensures legal { IsLegalRun self.new }
     {
@@ -138,13 +148,13 @@ impl Engine {
             let entry = self.machine.journal.len();
             self.machine.journal.note(Entry::Cancel { session });
             let cause = Cause::Cancelled { entry };
-            refuse(&self.scripts, &mut self.machine, session, seat, cause);
+            refuse(&self.terms, &mut self.machine, session, seat, cause);
         }
     }
 
     /// Closes a session that has no step in hand, and aborts its open transaction. It takes no memory.
     pub fn close_session(&mut self, session: u32)
-        requires known { session < self.old.scripts.sessions }
+        requires known { session < self.old.terms.scripts.sessions }
         requires idle { hand self.old.past session ≡ None }
         requires not_closed { closed self.old.past session ≡ false }
         ensures closes { IsClosed self.old self.new session }
@@ -152,7 +162,7 @@ impl Engine {
     {
         let at = session as usize;
         let seat = self.machine.sessions[at];
-        abort_open(&self.scripts, &mut self.machine, session, seat);
+        abort_open(&self.terms, &mut self.machine, session, seat);
         self.machine.journal.note(Entry::Close { session });
         self.machine.sessions[at] = Session {
             xact: None,
@@ -173,29 +183,27 @@ impl Engine {
         ensures is { past_of result ≡ self.past }
         ensures legal { IsLegalRun self }
     {
-        let Engine {
-            scripts: _,
-            machine,
-        } = self;
+        let Engine { terms: _, machine } = self;
         let Machine {
             journal,
             sessions: _,
             tables: _,
             locks: _,
             committed: _,
+            weight: _,
         } = machine;
         journal
     }
 }
 
 /// The open transaction of an idle session is aborted, where it has one.
-fn abort_open(_scripts: &Scripts, machine: &mut Machine, session: u32, seat: Session)
-    requires known { session < _scripts.now.sessions }
-    requires kept { IsKept _scripts.now (parts_of machine.old) }
+fn abort_open(_terms: &Terms, machine: &mut Machine, session: u32, seat: Session)
+    requires known { session < _terms.now.scripts.sessions }
+    requires kept { IsKept _terms.now (parts_of machine.old) }
     requires seat { slice_get machine.old.sessions.items session ≡ Some seat }
     requires idle { hand (past_in machine.old) session ≡ None }
     requires not_closed { closed (past_in machine.old) session ≡ false }
-    ensures { HasLeft _scripts.now (parts_of machine.old) (parts_of machine.new) session seat }
+    ensures { HasLeft _terms.now (parts_of machine.old) (parts_of machine.new) session seat }
 {
     if let Some(xact) = seat.xact {
         abort(machine, session, xact);

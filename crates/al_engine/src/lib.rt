@@ -12,6 +12,7 @@ mod stored;
 mod tests;
 mod told;
 mod turns;
+mod weights;
 
 pub use engine::Engine;
 pub use told::{Busy, Told};

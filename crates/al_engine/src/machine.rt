@@ -16,7 +16,7 @@ ghost use Rattle.al_engine.specs.Kept.{parts_of, past_in, IsAmid, IsClear, IsKep
 
 use crate::sessions::{Block, Session};
 use crate::stored::StoredTable;
-use al_history::{Cause, Entry, History, Reply, Scripts};
+use al_history::{Cause, Entry, History, Reply, Terms};
 use al_queue::{Grant, LockTable};
 
 /// What is kept of a run beside its blocks.
@@ -32,6 +32,8 @@ pub struct Machine {
     pub locks: LockTable,
     /// For each place of the journal, whether the transaction of that place is committed.
     pub committed: Vec<bool>,
+    /// What the entries of the journal weigh.
+    pub weight: u64,
 }
 
 /// The open transaction of a session, 0 where it has none.
@@ -64,6 +66,7 @@ fn end_claims(machine: &mut Machine, session: u32)
     ensures room { machine.new.journal.room + length machine.new.locks.locks.granted ≡ machine.old.journal.room }
     ensures tables { machine.new.tables.items ≡ machine.old.tables.items }
     ensures committed { machine.new.committed.items ≡ machine.old.committed.items }
+    ensures weight { machine.new.weight ≡ machine.old.weight }
     ensures settled { IsSettled machine.new.locks.locks }
     ensures hands_on { HandsOn (released machine.old.locks.locks session) machine.new.locks.locks }
 {
@@ -91,6 +94,7 @@ pub fn commit(machine: &mut Machine, session: u32, xact: u32)
     ensures room { machine.new.journal.room + length machine.new.locks.locks.granted + 1 ≡ machine.old.journal.room }
     ensures tables { machine.new.tables.items ≡ machine.old.tables.items }
     ensures committed { machine.new.committed.items ≡ slice_set machine.old.committed.items xact true }
+    ensures weight { machine.new.weight ≡ machine.old.weight }
     ensures settled { IsSettled machine.new.locks.locks }
     ensures hands_on { HandsOn (released machine.old.locks.locks session) machine.new.locks.locks }
 {
@@ -109,6 +113,7 @@ pub fn abort(machine: &mut Machine, session: u32, xact: u32)
     ensures room { machine.new.journal.room + length machine.new.locks.locks.granted + 1 ≡ machine.old.journal.room }
     ensures tables { machine.new.tables.items ≡ machine.old.tables.items }
     ensures committed { machine.new.committed.items ≡ machine.old.committed.items }
+    ensures weight { machine.new.weight ≡ machine.old.weight }
     ensures settled { IsSettled machine.new.locks.locks }
     ensures hands_on { HandsOn (released machine.old.locks.locks session) machine.new.locks.locks }
 {
@@ -117,15 +122,15 @@ pub fn abort(machine: &mut Machine, session: u32, xact: u32)
 }
 
 /// The statement in hand is done with this reply: its step ends, and with it an implicit transaction.
-pub fn done(_scripts: &Scripts, machine: &mut Machine, session: u32, seat: Session, reply: Reply)
-    requires known { session < _scripts.now.sessions }
-    requires amid { IsAmid _scripts.now (parts_of machine.old) session 0 }
-    requires clear { IsClear _scripts.now (past_in machine.old) }
+pub fn done(_terms: &Terms, machine: &mut Machine, session: u32, seat: Session, reply: Reply)
+    requires known { session < _terms.now.scripts.sessions }
+    requires amid { IsAmid _terms.now (parts_of machine.old) session 0 }
+    requires clear { IsClear _terms.now (past_in machine.old) }
     requires seat { slice_get machine.old.sessions.items session ≡ Some seat }
-    requires done { CanBeDone _scripts.now (past_in machine.old) session seat reply }
-    ensures kept { IsKept _scripts.now (parts_of machine.new) }
+    requires done { CanBeDone _terms.now (past_in machine.old) session seat reply }
+    ensures kept { IsKept _terms.now (parts_of machine.new) }
     ensures rows { row_entries (past_in machine.new) ≡ row_entries (past_in machine.old) }
-    ensures went { Went _scripts.now session (past_in machine.old) (past_in machine.new) false (driver (past_in machine.old)) (IsLeast (past_in machine.old) session) }
+    ensures went { Went _terms.now session (past_in machine.old) (past_in machine.new) false (driver (past_in machine.old)) (IsLeast (past_in machine.old) session) }
 {
     machine.journal.note(Entry::Done { session, reply });
     if let (Block::Outside, Some(xact)) = (seat.block, seat.xact) {
@@ -138,14 +143,14 @@ pub fn done(_scripts: &Scripts, machine: &mut Machine, session: u32, seat: Sessi
 
 /// The statement in hand is refused for this cause: its transaction is aborted, where one is open, its open block fails, and its
 /// step ends.
-pub fn refuse(_scripts: &Scripts, machine: &mut Machine, session: u32, seat: Session, cause: Cause)
-    requires known { session < _scripts.now.sessions }
-    requires amid { IsAmid _scripts.now (parts_of machine.old) session (used_by cause) }
+pub fn refuse(_terms: &Terms, machine: &mut Machine, session: u32, seat: Session, cause: Cause)
+    requires known { session < _terms.now.scripts.sessions }
+    requires amid { IsAmid _terms.now (parts_of machine.old) session (used_by cause) }
     requires seat { slice_get machine.old.sessions.items session ≡ Some seat }
-    requires refused { CanBeRefused _scripts.now (past_in machine.old) session seat cause }
-    ensures kept { IsKept _scripts.now (parts_of machine.new) }
+    requires refused { CanBeRefused _terms.now (past_in machine.old) session seat cause }
+    ensures kept { IsKept _terms.now (parts_of machine.new) }
     ensures exact { IsRefused (past_in machine.old) (past_in machine.new) session seat.xact cause }
-    ensures went { Went _scripts.now session (past_in machine.old) (past_in machine.new) true (driver (past_in machine.old)) (IsTurn (owed _scripts.now (past_in machine.old)) (past_in machine.old) session) }
+    ensures went { Went _terms.now session (past_in machine.old) (past_in machine.new) true (driver (past_in machine.old)) (IsTurn (owed _terms.now (past_in machine.old)) (past_in machine.old) session) }
 {
     let place = machine.journal.len();
     machine.journal.note(Entry::Refuse { session, cause });
@@ -184,6 +189,7 @@ pub fn end_step(machine: &mut Machine, session: u32, seat: Session)
     ensures tables { machine.new.tables.items ≡ machine.old.tables.items }
     ensures locks { machine.new.locks ≡ machine.old.locks }
     ensures committed { machine.new.committed.items ≡ machine.old.committed.items }
+    ensures weight { machine.new.weight ≡ machine.old.weight }
 {
     machine.journal.note(Entry::End { session });
     machine.sessions[session as usize] = Session {

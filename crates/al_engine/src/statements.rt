@@ -1,32 +1,78 @@
 //! The statements of an open transaction. Each is judged, what it takes is copied and reserved, and then the tables and the journal
 //! change together.
-ghost use Rattle.std.specs.Prelude.{◌≡◌, ◌+◌, ◌<◌, ◌≤◌, ◌∷◌, ◌++◌, cond, true, Some, None, IsSome, IfOk, OnOk, OnErr, slice_get, slice_set, length};
+ghost use Rattle.std.specs.Prelude.{◌≡◌, ℕ, List, [], ◌+◌, ◌<◌, ◌≤◌, ◌^◌, ◌∷◌, ◌++◌, option_map, not, cond, true, Some, None, IsSome, IfOk, OnOk, OnErr, slice_get, slice_set, length};
 ghost use Rattle.al_history.specs.declared.entry.Cause.TheVariants as causes;
-ghost use Rattle.al_history.specs.declared.entry.Entry.TheVariants.{Wait, Look};
+ghost use Rattle.al_history.specs.declared.entry.Entry.TheVariants.{Wait, Make};
 ghost use Rattle.al_history.specs.declared.entry.Want.TheVariants as wants;
 ghost use Rattle.al_history.specs.declared.statement.Statement.TheVariants as statements;
+ghost use Rattle.al_history.specs.Cause.{used_name, first_of, create_cause};
+ghost use Rattle.al_history.specs.Change.{shape_of};
+ghost use Rattle.al_history.specs.Store.{slots_of};
 ghost use Rattle.al_history.specs.Hand.{statement_of};
+ghost use Rattle.al_queue.specs.InWay.{grantable};
+ghost use Rattle.al_queue.specs.Waits.{holds};
+ghost use Rattle.al_history.specs.Made.{row_entries};
 ghost use Rattle.al_history.specs.Whole.{driver, IsLeast};
 ghost use Rattle.al_history.specs.Waits.{can_go_on};
 ghost use Rattle.al_history.proofs.Turns.{Went};
-ghost use Rattle.al_engine.specs.Kept.{parts_of, past_in, IsKept, IsSame, CanBeRefused, Lacks};
+ghost use Rattle.al_engine.specs.Kept.{parts_of, past_in, IsKept, IsSame, CanBeRefused, Lacks, over_by};
+ghost use Rattle.al_engine.specs.Using.{mode_of, IsLocked, create_weight};
+ghost use Rattle.al_engine.specs.Creating.{taker_in, seen_in, look_past};
+ghost use Rattle.al_engine.specs.Stored.{all_kept};
 ghost use Rattle.al_engine.specs.Sessions.{xacts_in};
 
-use crate::causes::{alter_cause, count_cause, create_cause};
+use crate::causes::{alter_cause, count_cause, create_cause, first_of};
 use crate::machine::{Machine, done, refuse};
 use crate::sessions::Session;
 use crate::stored::{
     Reader, StoredColumn, StoredRow, columns_of, filled, names_of, new_table, position_of,
     push_column, push_row, rows_of, shape_of, spread, taker_of,
 };
-use al_history::{Cause, Column, Entry, Mode, Reply, RewrittenList, Scripts, Tag, Want};
-use al_queue::Asked;
-use al_values::{Copied, Name, NameList, NoMemory, Row};
+use crate::weights::{over, plus, read_weight, row_weight};
+use al_history::{Cause, Column, Entry, Mode, Reply, RewrittenList, Statement, Tag, Terms, Want};
+use al_queue::{Asked, LockTable};
+use al_values::{Copied, Name, NameList, NoMemory, Row, Steps};
 use std::alloc::Global;
+use std::sync::ledger::Ledger;
+
+/// Notes an entry of this weight.
+fn note_heavy(machine: &mut Machine, entry: Entry, weight: u64)
+    requires room { 0 < machine.old.journal.room }
+    requires fits { machine.old.weight + weight < 2 ^ 64 }
+    ensures past { past_in machine.new ≡ entry ∷ past_in machine.old }
+    ensures room { machine.new.journal.room + 1 ≡ machine.old.journal.room }
+    ensures weight { machine.new.weight ≡ machine.old.weight + weight }
+    ensures sessions { machine.new.sessions.items ≡ machine.old.sessions.items }
+    ensures tables { machine.new.tables.items ≡ machine.old.tables.items }
+    ensures locks { machine.new.locks ≡ machine.old.locks }
+    ensures committed { machine.new.committed.items ≡ machine.old.committed.items }
+{
+    machine.journal.note(entry);
+    machine.weight += weight;
+}
+
+/// Whether a session doesn't hold this lock yet.
+fn lacks(locks: &LockTable, session: u32, table: u32, mode: Mode) -> bool
+    requires known { session < locks.now.sessions }
+    ensures { result ≡ not (holds locks.now.locks session table mode) }
+{
+    !locks.holds(session, table, mode)
+}
+
+/// What the next entry of a statement weighs that lacks this lock: 1 where the lock is free, and 2 where it has to wait.
+fn request_weight(locks: &LockTable, session: u32, table: u32, mode: Mode) -> u64
+    requires known { session < locks.now.sessions }
+    ensures { result ≡ cond (grantable locks.now.locks (record { session = session; table = table; mode = mode })) 1 2 }
+{
+    match locks.stands_before(session, table, mode) {
+        None => 1,
+        Some(_) => 2,
+    }
+}
 
 /// Asks for the lock that a statement lacks: it is got, or waited for.
 fn ask(
-    _scripts: &Scripts,
+    terms: &Terms,
     machine: &mut Machine,
     session: u32,
     seat: Session,
@@ -34,18 +80,23 @@ fn ask(
     table: u32,
     mode: Mode,
 ) -> Result<bool, NoMemory>
-    requires known { session < _scripts.now.sessions }
-    requires lacks { Lacks _scripts.now (parts_of machine.old) session seat xact (record { session = session; table = table; mode = mode }) }
-    ensures kept { OnOk result (IsKept _scripts.now (parts_of machine.new)) }
-    ensures went { IfOk result (λ refused. Went _scripts.now session (past_in machine.old) (past_in machine.new) refused (driver (past_in machine.old)) (IsLeast (past_in machine.old) session)) }
+    requires known { session < terms.now.scripts.sessions }
+    requires lacks { Lacks terms.now (parts_of machine.old) session seat xact (record { session = session; table = table; mode = mode }) }
+    ensures kept { OnOk result (IsKept terms.now (parts_of machine.new)) }
+    ensures went { IfOk result (λ refused. Went terms.now session (past_in machine.old) (past_in machine.new) refused (driver (past_in machine.old)) (IsLeast (past_in machine.old) session)) }
     ensures err { OnErr result (IsSame (parts_of machine.old) (parts_of machine.new)) }
 {
+    let weight = request_weight(&machine.locks, session, table, mode);
+    if let Some(cause) = over(terms.weight, machine.weight, weight)? {
+        refuse(terms, machine, session, seat, cause);
+        return Ok(true);
+    }
     machine.journal.reserve(2)?;
     match machine.locks.ask(session, table, mode)? {
-        Asked::Granted => machine.journal.note(Entry::Lock { xact, table, mode }),
+        Asked::Granted => note_heavy(machine, Entry::Lock { xact, table, mode }, weight),
         Asked::Queued { .. } => {
             let want = Want::Table { table, mode };
-            machine.journal.note(Entry::Wait { xact, want });
+            note_heavy(machine, Entry::Wait { xact, want }, weight);
             machine.sessions[session as usize] = Session {
                 wants: Some(want),
                 ..seat
@@ -58,22 +109,22 @@ fn ask(
 /// The table that a statement uses isn't there.
 fn unknown(
     alloc: Global,
-    scripts: &Scripts,
+    terms: &Terms,
     machine: &mut Machine,
     session: u32,
     seat: Session,
     name: &Name,
 ) -> Result<bool, NoMemory>
-    requires known { session < scripts.now.sessions }
-    requires kept { IsKept scripts.now (parts_of machine.old) }
+    requires known { session < terms.now.scripts.sessions }
+    requires kept { IsKept terms.now (parts_of machine.old) }
     requires seat { slice_get machine.old.sessions.items session ≡ Some seat }
-    requires refused { CanBeRefused scripts.now (past_in machine.old) session seat (causes.NoTable name.now) }
-    ensures kept { OnOk result (IsKept scripts.now (parts_of machine.new)) }
-    ensures went { IfOk result (λ refused. Went scripts.now session (past_in machine.old) (past_in machine.new) refused (driver (past_in machine.old)) (IsLeast (past_in machine.old) session)) }
+    requires refused { CanBeRefused terms.now (past_in machine.old) session seat (causes.NoTable name.now) }
+    ensures kept { OnOk result (IsKept terms.now (parts_of machine.new)) }
+    ensures went { IfOk result (λ refused. Went terms.now session (past_in machine.old) (past_in machine.new) refused (driver (past_in machine.old)) (IsLeast (past_in machine.old) session)) }
     ensures err { OnErr result (IsSame (parts_of machine.old) (parts_of machine.new)) }
 {
     let name = name.copied(alloc)?;
-    refuse(scripts, machine, session, seat, Cause::NoTable { name });
+    refuse(terms, machine, session, seat, Cause::NoTable { name });
     Ok(true)
 }
 
@@ -88,10 +139,66 @@ fn open_xacts(alloc: Global, sessions: &[Session]) -> Result<Vec<Option<u32>>, N
     Ok(xacts)
 }
 
+/// Why a Look is refused, unless the statement has looked: the journal has no place for it.
+fn look_cause(limit: u32, weight: u64, looked: bool) -> Result<Option<Cause>, NoMemory>
+    ensures { IfOk result (λ cause. cause ≡ cond looked None (over_by limit weight 1)) }
+{
+    if looked {
+        return Ok(None);
+    }
+    over(limit, weight, 1)
+}
+
+/// What the next entry of a CREATE TABLE weighs that has looked: a Wait where somebody is in the way of its name, else its Make.
+fn create_weight(columns: &[Name], taker: Option<u32>) -> Result<u64, NoMemory>
+    ensures { IfOk result (λ weight. weight ≡ create_weight columns.now taker) }
+{
+    match taker {
+        Some(_) => Ok(2),
+        None => plus(1, columns.len() as u64),
+    }
+}
+
+/// Who is in the way of a new table's name: an open transaction of another that has made a table of it.
+fn name_taker(
+    alloc: Global,
+    machine: &Machine,
+    xact: u32,
+    name: &Name,
+) -> Result<Option<u32>, NoMemory>
+    ensures { IfOk result (λ taker. taker ≡ taker_in (parts_of machine.now) xact name.now) }
+{
+    let opened = open_xacts(alloc, &machine.sessions)?;
+    Ok(taker_of(&machine.tables, name, xact, &opened))
+}
+
+/// Why a CREATE TABLE is refused once it has looked: for what it finds, or because the journal has no place for its next entry.
+fn create_refusal(
+    alloc: Global,
+    limit: u32,
+    machine: &Machine,
+    looked: bool,
+    xact: u32,
+    name: &Name,
+    columns: &[Name],
+    taker: Option<u32>,
+) -> Result<Option<Cause>, NoMemory>
+    ensures { IfOk result (λ cause. cause ≡ first_of (create_cause name.now columns.now taker (seen_in (parts_of machine.now) xact)) (over_by limit (machine.now.weight + cond looked 0 1) (create_weight columns.now taker))) }
+{
+    let reader = Reader {
+        xact,
+        committed: &machine.committed,
+    };
+    let weight = create_weight(columns, taker)?;
+    let so_far = plus(machine.weight, u64::from(!looked))?;
+    let found = create_cause(alloc, &machine.tables, &reader, name, columns, taker)?;
+    Ok(first_of(found, over(limit, so_far, weight)?))
+}
+
 /// CREATE TABLE. Where an open transaction of another is in the way of its name, it waits for its end.
 pub fn create_table(
     alloc: Global,
-    scripts: &Scripts,
+    terms: &Terms,
     machine: &mut Machine,
     session: u32,
     seat: Session,
@@ -99,27 +206,29 @@ pub fn create_table(
     name: &Name,
     columns: &NameList,
 ) -> Result<bool, NoMemory>
-    requires known { session < scripts.now.sessions }
-    requires kept { IsKept scripts.now (parts_of machine.old) }
+    requires known { session < terms.now.scripts.sessions }
+    requires kept { IsKept terms.now (parts_of machine.old) }
     requires seat { slice_get machine.old.sessions.items session ≡ Some seat }
     requires goes { can_go_on (past_in machine.old) session ≡ true }
     requires in_xact { seat.xact ≡ Some xact }
-    requires statement { statement_of scripts.now seat.hand 0 ≡ Some (statements.CreateTable name.now columns.now) }
-    ensures kept { OnOk result (IsKept scripts.now (parts_of machine.new)) }
-    ensures went { IfOk result (λ refused. Went scripts.now session (past_in machine.old) (past_in machine.new) refused (driver (past_in machine.old)) (IsLeast (past_in machine.old) session)) }
+    requires statement { statement_of terms.now seat.hand 0 ≡ Some (statements.CreateTable name.now columns.now) }
+    ensures kept { OnOk result (IsKept terms.now (parts_of machine.new)) }
+    ensures went { IfOk result (λ refused. Went terms.now session (past_in machine.old) (past_in machine.new) refused (driver (past_in machine.old)) (IsLeast (past_in machine.old) session)) }
     ensures err { OnErr result (IsSame (parts_of machine.old) (parts_of machine.new)) }
 {
-    machine.journal.reserve(2)?;
-    let opened = open_xacts(alloc, &machine.sessions)?;
-    let taker = taker_of(&machine.tables, name, xact, &opened);
-    let reader = Reader {
-        xact,
-        committed: &machine.committed,
-    };
+    let limit = terms.weight;
+    let looked = seat.looked;
+    if let Some(cause) = look_cause(limit, machine.weight, looked)? {
+        refuse(terms, machine, session, seat, cause);
+        return Ok(true);
+    }
     let columns = columns.as_slice();
-    if let Some(cause) = create_cause(alloc, &machine.tables, &reader, name, columns, taker)? {
+    let taker = name_taker(alloc, machine, xact, name)?;
+    let refusal = create_refusal(alloc, limit, machine, looked, xact, name, columns, taker)?;
+    machine.journal.reserve(2)?;
+    if let Some(cause) = refusal {
         look(machine, seat, xact);
-        refuse(scripts, machine, session, seat, cause);
+        refuse(terms, machine, session, seat, cause);
         return Ok(true);
     }
     if let Some(other) = taker {
@@ -127,6 +236,33 @@ pub fn create_table(
         wait_for_end(machine, session, seat, xact, other);
         return Ok(false);
     }
+    make(alloc, machine, seat, xact, name, columns)?;
+    let tag = Tag::CreateTable;
+    let reply = Reply::Tag { tag, count: 0 };
+    done(terms, machine, session, seat, reply);
+    Ok(false)
+}
+
+/// Looks, unless the statement has looked, and makes its table.
+fn make(
+    alloc: Global,
+    machine: &mut Machine,
+    seat: Session,
+    xact: u32,
+    name: &Name,
+    columns: &[Name],
+) -> Result<(), NoMemory>
+    requires room { 2 ≤ machine.old.journal.room }
+    requires fits { machine.old.weight + cond seat.looked 0 1 + (1 + length columns.now) < 2 ^ 64 }
+    ensures past { OnOk result (past_in machine.new ≡ Make xact (length (look_past seat.looked xact (past_in machine.old))) name.now (shape_of columns.now) ∷ look_past seat.looked xact (past_in machine.old)) }
+    ensures room { OnOk result (machine.old.journal.room ≤ machine.new.journal.room + 2) }
+    ensures weight { OnOk result (machine.new.weight ≡ machine.old.weight + cond seat.looked 0 1 + (1 + length columns.now)) }
+    ensures tables { OnOk result (all_kept machine.new.tables.items ≡ all_kept machine.old.tables.items ++ record { number = length (look_past seat.looked xact (past_in machine.old)); maker = xact; name = name.now; slots = slots_of xact (shape_of columns.now); rows = [] } ∷ []) }
+    ensures sessions { OnOk result (machine.new.sessions.items ≡ machine.old.sessions.items) }
+    ensures locks { OnOk result (machine.new.locks ≡ machine.old.locks) }
+    ensures committed { OnOk result (machine.new.committed.items ≡ machine.old.committed.items) }
+    ensures err { OnErr result (IsSame (parts_of machine.old) (parts_of machine.new)) }
+{
     let number = machine.journal.len() + u32::from(!seat.looked);
     let table = new_table(alloc, number, xact, name, columns)?;
     let act = Entry::Make {
@@ -137,30 +273,24 @@ pub fn create_table(
     };
     machine.tables.push(table)?;
     look(machine, seat, xact);
-    machine.journal.note(act);
-    let tag = Tag::CreateTable;
-    done(
-        scripts,
-        machine,
-        session,
-        seat,
-        Reply::Tag { tag, count: 0 },
-    );
-    Ok(false)
+    note_heavy(machine, act, 1 + columns.len() as u64);
+    Ok(())
 }
 
 /// Notes the statement's Look, unless it has looked.
 fn look(machine: &mut Machine, seat: Session, xact: u32)
-    requires { 0 < machine.old.journal.room }
-    ensures past { past_in machine.new ≡ cond seat.looked (past_in machine.old) (Look xact ∷ past_in machine.old) }
+    requires room { 0 < machine.old.journal.room }
+    requires fits { machine.old.weight + cond seat.looked 0 1 < 2 ^ 64 }
+    ensures past { past_in machine.new ≡ look_past seat.looked xact (past_in machine.old) }
     ensures room { machine.old.journal.room ≤ machine.new.journal.room + 1 }
+    ensures weight { machine.new.weight ≡ machine.old.weight + cond seat.looked 0 1 }
     ensures sessions { machine.new.sessions.items ≡ machine.old.sessions.items }
     ensures tables { machine.new.tables.items ≡ machine.old.tables.items }
     ensures locks { machine.new.locks ≡ machine.old.locks }
     ensures committed { machine.new.committed.items ≡ machine.old.committed.items }
 {
     if !seat.looked {
-        machine.journal.note(Entry::Look { xact });
+        note_heavy(machine, Entry::Look { xact }, 1);
     }
 }
 
@@ -168,15 +298,17 @@ fn look(machine: &mut Machine, seat: Session, xact: u32)
 fn wait_for_end(machine: &mut Machine, session: u32, seat: Session, xact: u32, other: u32)
     requires known { session < length machine.old.sessions.items }
     requires room { 0 < machine.old.journal.room }
+    requires fits { machine.old.weight + 2 < 2 ^ 64 }
     ensures past { past_in machine.new ≡ Wait xact (wants.Ends other) ∷ past_in machine.old }
     ensures room { machine.new.journal.room + 1 ≡ machine.old.journal.room }
     ensures sessions { machine.new.sessions.items ≡ slice_set machine.old.sessions.items session (record seat { looked = true; wants = Some (wants.Ends other) }) }
     ensures tables { machine.new.tables.items ≡ machine.old.tables.items }
     ensures locks { machine.new.locks ≡ machine.old.locks }
     ensures committed { machine.new.committed.items ≡ machine.old.committed.items }
+    ensures weight { machine.new.weight ≡ machine.old.weight + 2 }
 {
     let want = Want::Ends { xact: other };
-    machine.journal.note(Entry::Wait { xact, want });
+    note_heavy(machine, Entry::Wait { xact, want }, 2);
     machine.sessions[session as usize] = Session {
         looked: true,
         wants: Some(want),
@@ -184,159 +316,237 @@ fn wait_for_end(machine: &mut Machine, session: u32, seat: Session, xact: u32, o
     };
 }
 
-/// INSERT.
-pub fn insert(
+/// The name of the table that a statement uses which has to be there.
+fn used_name(statement: &Statement) -> Option<&Name>
+    ensures { option_map (λ name. name.now) result ≡ used_name statement.now }
+{
+    match statement {
+        Statement::Begin | Statement::Commit | Statement::Rollback => None,
+        Statement::CreateTable { .. } => None,
+        Statement::Insert { table, .. } => Some(table),
+        Statement::Select { table } => Some(table),
+        Statement::AddColumn { table, .. } => Some(table),
+    }
+}
+
+/// The mode in which a statement locks the table that it uses (13.3.1).
+fn mode_of(statement: &Statement) -> Mode
+    ensures { result ≡ mode_of statement.now }
+{
+    match statement {
+        Statement::Select { .. } => Mode::AccessShare,
+        Statement::Insert { .. } => Mode::RowExclusive,
+        _ => Mode::AccessExclusive,
+    }
+}
+
+/// Goes on with a statement that uses a table: it asks for the table's lock, and looks and acts once it has that.
+pub fn use_table<L: Ledger>(
     alloc: Global,
-    scripts: &Scripts,
+    terms: &Terms,
     machine: &mut Machine,
     session: u32,
     seat: Session,
     xact: u32,
-    name: &Name,
-    written: &Row,
+    statement: &Statement,
+    steps: &mut Steps<L>,
 ) -> Result<bool, NoMemory>
-    requires known { session < scripts.now.sessions }
-    requires kept { IsKept scripts.now (parts_of machine.old) }
+    requires known { session < terms.now.scripts.sessions }
+    requires kept { IsKept terms.now (parts_of machine.old) }
     requires seat { slice_get machine.old.sessions.items session ≡ Some seat }
     requires goes { can_go_on (past_in machine.old) session ≡ true }
     requires in_xact { seat.xact ≡ Some xact }
-    requires statement { statement_of scripts.now seat.hand 0 ≡ Some (statements.Insert name.now written.now) }
-    ensures kept { OnOk result (IsKept scripts.now (parts_of machine.new)) }
-    ensures went { IfOk result (λ refused. Went scripts.now session (past_in machine.old) (past_in machine.new) refused (driver (past_in machine.old)) (IsLeast (past_in machine.old) session)) }
+    requires statement { statement_of terms.now seat.hand 0 ≡ Some statement.now }
+    requires uses { IsSome (used_name statement.now) }
+    ensures kept { OnOk result (IsKept terms.now (parts_of machine.new)) }
+    ensures went { IfOk result (λ refused. Went terms.now session (past_in machine.old) (past_in machine.new) refused (driver (past_in machine.old)) (IsLeast (past_in machine.old) session)) }
+    ensures err { OnErr result (IsSame (parts_of machine.old) (parts_of machine.new)) }
+    ensures counted { steps.old ≤ steps.new }
+    ensures bounded { steps.new ≤ steps.old + row_entries (past_in machine.old) }
+{
+    let name = used_name(statement).unwrap();
+    let reader = Reader {
+        xact,
+        committed: &machine.committed,
+    };
+    let Some(at) = position_of(&machine.tables, &reader, name) else {
+        return unknown(alloc, terms, machine, session, seat, name);
+    };
+    let number = machine.tables[at].number;
+    let mode = mode_of(statement);
+    if lacks(&machine.locks, session, number, mode) {
+        return ask(terms, machine, session, seat, xact, number, mode);
+    }
+    if let Some(cause) = over(terms.weight, machine.weight, 1)? {
+        refuse(terms, machine, session, seat, cause);
+        return Ok(true);
+    }
+    act(
+        alloc, terms, machine, session, seat, xact, at, statement, steps,
+    )
+}
+
+/// A statement acts that has locked its table, which stands at this place, and may look.
+fn act<L: Ledger>(
+    alloc: Global,
+    terms: &Terms,
+    machine: &mut Machine,
+    session: u32,
+    seat: Session,
+    xact: u32,
+    at: usize,
+    statement: &Statement,
+    steps: &mut Steps<L>,
+) -> Result<bool, NoMemory>
+    requires known { session < terms.now.scripts.sessions }
+    requires locked { IsLocked terms.now (parts_of machine.old) session seat xact statement.now at }
+    requires uses { IsSome (used_name statement.now) }
+    ensures kept { OnOk result (IsKept terms.now (parts_of machine.new)) }
+    ensures went { IfOk result (λ refused. Went terms.now session (past_in machine.old) (past_in machine.new) refused (driver (past_in machine.old)) (IsLeast (past_in machine.old) session)) }
+    ensures err { OnErr result (IsSame (parts_of machine.old) (parts_of machine.new)) }
+    ensures counted { steps.old ≤ steps.new }
+    ensures bounded { steps.new ≤ steps.old + row_entries (past_in machine.old) }
+{
+    match statement {
+        Statement::Insert { values, .. } => {
+            insert(alloc, terms, machine, session, seat, xact, at, values)
+        }
+        Statement::Select { .. } => select(alloc, terms, machine, session, seat, xact, at, steps),
+        Statement::AddColumn { column, .. } => {
+            add_column(alloc, terms, machine, session, seat, xact, at, column)
+        }
+        _ => unreachable!(),
+    }
+}
+
+/// INSERT: a row is added.
+fn insert(
+    alloc: Global,
+    terms: &Terms,
+    machine: &mut Machine,
+    session: u32,
+    seat: Session,
+    xact: u32,
+    at: usize,
+    written: &Row,
+) -> Result<bool, NoMemory>
+    requires known { session < terms.now.scripts.sessions }
+    requires locked { (name : List ℕ) × IsLocked terms.now (parts_of machine.old) session seat xact (statements.Insert name written.now) at }
+    ensures kept { OnOk result (IsKept terms.now (parts_of machine.new)) }
+    ensures went { IfOk result (λ refused. Went terms.now session (past_in machine.old) (past_in machine.new) refused (driver (past_in machine.old)) (IsLeast (past_in machine.old) session)) }
     ensures err { OnErr result (IsSame (parts_of machine.old) (parts_of machine.new)) }
 {
     let reader = Reader {
         xact,
         committed: &machine.committed,
     };
-    let Some(at) = position_of(&machine.tables, &reader, name) else {
-        return unknown(alloc, scripts, machine, session, seat, name);
-    };
     let table = &machine.tables[at];
     let number = table.number;
-    let mode = Mode::RowExclusive;
-    if !machine.locks.holds(session, number, mode) {
-        return ask(scripts, machine, session, seat, xact, number, mode);
-    }
     let columns = columns_of(alloc, &reader, table)?;
+    let so_far = plus(machine.weight, 1)?;
     machine.journal.reserve(2)?;
     if let Some(cause) = count_cause(columns.as_slice(), written.len())? {
-        machine.journal.note(Entry::Look { xact });
-        refuse(scripts, machine, session, seat, cause);
+        note_heavy(machine, Entry::Look { xact }, 1);
+        refuse(terms, machine, session, seat, cause);
         return Ok(true);
     }
     let row = filled(alloc, columns.as_slice(), written)?;
+    let weight = plus(1, row_weight(row.as_slice())?)?;
+    let over_limit = over(terms.weight, so_far, weight)?;
     let values = spread(alloc, &reader, table.columns.as_slice(), &row)?;
-    let place = machine.journal.len() + 1;
+    if let Some(cause) = over_limit {
+        note_heavy(machine, Entry::Look { xact }, 1);
+        refuse(terms, machine, session, seat, cause);
+        return Ok(true);
+    }
     let stored = StoredRow {
-        number: place,
+        number: machine.journal.len() + 1,
         maker: xact,
         values,
     };
     push_row(&mut machine.tables, at, stored)?;
-    machine.journal.note(Entry::Look { xact });
-    machine.journal.note(Entry::Add {
-        xact,
-        table: number,
-        row,
-    });
+    note_heavy(machine, Entry::Look { xact }, 1);
+    let table = number;
+    note_heavy(machine, Entry::Add { xact, table, row }, weight);
     let tag = Tag::Insert;
-    done(
-        scripts,
-        machine,
-        session,
-        seat,
-        Reply::Tag { tag, count: 1 },
-    );
+    let reply = Reply::Tag { tag, count: 1 };
+    done(terms, machine, session, seat, reply);
     Ok(false)
 }
 
-/// SELECT.
-pub fn select(
+/// SELECT: all rows are read. Each row version of its table is looked at once, and counted.
+fn select<L: Ledger>(
     alloc: Global,
-    scripts: &Scripts,
+    terms: &Terms,
     machine: &mut Machine,
     session: u32,
     seat: Session,
     xact: u32,
-    name: &Name,
+    at: usize,
+    steps: &mut Steps<L>,
 ) -> Result<bool, NoMemory>
-    requires known { session < scripts.now.sessions }
-    requires kept { IsKept scripts.now (parts_of machine.old) }
-    requires seat { slice_get machine.old.sessions.items session ≡ Some seat }
-    requires goes { can_go_on (past_in machine.old) session ≡ true }
-    requires in_xact { seat.xact ≡ Some xact }
-    requires statement { statement_of scripts.now seat.hand 0 ≡ Some (statements.Select name.now) }
-    ensures kept { OnOk result (IsKept scripts.now (parts_of machine.new)) }
-    ensures went { IfOk result (λ refused. Went scripts.now session (past_in machine.old) (past_in machine.new) refused (driver (past_in machine.old)) (IsLeast (past_in machine.old) session)) }
+    requires known { session < terms.now.scripts.sessions }
+    requires locked { (name : List ℕ) × IsLocked terms.now (parts_of machine.old) session seat xact (statements.Select name) at }
+    ensures kept { OnOk result (IsKept terms.now (parts_of machine.new)) }
+    ensures went { IfOk result (λ refused. Went terms.now session (past_in machine.old) (past_in machine.new) refused (driver (past_in machine.old)) (IsLeast (past_in machine.old) session)) }
     ensures err { OnErr result (IsSame (parts_of machine.old) (parts_of machine.new)) }
+    ensures counted { steps.old ≤ steps.new }
+    ensures bounded { steps.new ≤ steps.old + row_entries (past_in machine.old) }
 {
     let reader = Reader {
         xact,
         committed: &machine.committed,
     };
-    let Some(at) = position_of(&machine.tables, &reader, name) else {
-        return unknown(alloc, scripts, machine, session, seat, name);
-    };
     let table = &machine.tables[at];
-    let number = table.number;
-    let mode = Mode::AccessShare;
-    if !machine.locks.holds(session, number, mode) {
-        return ask(scripts, machine, session, seat, xact, number, mode);
-    }
     let columns = columns_of(alloc, &reader, table)?;
-    let act = Entry::Read {
-        xact,
-        names: names_of(alloc, columns.as_slice())?,
-        rows: rows_of(alloc, &reader, table)?,
-    };
+    let names = names_of(alloc, columns.as_slice())?;
+    let rows = rows_of(alloc, &reader, table, steps)?;
+    let weight = read_weight(names.as_slice(), rows.as_slice())?;
+    let so_far = plus(machine.weight, 1)?;
+    let over_limit = over(terms.weight, so_far, weight)?;
     machine.journal.reserve(2)?;
-    machine.journal.note(Entry::Look { xact });
+    note_heavy(machine, Entry::Look { xact }, 1);
+    if let Some(cause) = over_limit {
+        refuse(terms, machine, session, seat, cause);
+        return Ok(true);
+    }
     let entry = machine.journal.len();
-    machine.journal.note(act);
-    done(scripts, machine, session, seat, Reply::Rows { entry });
+    note_heavy(machine, Entry::Read { xact, names, rows }, weight);
+    done(terms, machine, session, seat, Reply::Rows { entry });
     Ok(false)
 }
 
 /// ALTER TABLE with ADD COLUMN. No row is copied: it has the column's default from then on.
-pub fn add_column(
+fn add_column(
     alloc: Global,
-    scripts: &Scripts,
+    terms: &Terms,
     machine: &mut Machine,
     session: u32,
     seat: Session,
     xact: u32,
-    name: &Name,
+    at: usize,
     column: &Column,
 ) -> Result<bool, NoMemory>
-    requires known { session < scripts.now.sessions }
-    requires kept { IsKept scripts.now (parts_of machine.old) }
-    requires seat { slice_get machine.old.sessions.items session ≡ Some seat }
-    requires goes { can_go_on (past_in machine.old) session ≡ true }
-    requires in_xact { seat.xact ≡ Some xact }
-    requires statement { statement_of scripts.now seat.hand 0 ≡ Some (statements.AddColumn name.now column.now) }
-    ensures kept { OnOk result (IsKept scripts.now (parts_of machine.new)) }
-    ensures went { IfOk result (λ refused. Went scripts.now session (past_in machine.old) (past_in machine.new) refused (driver (past_in machine.old)) (IsLeast (past_in machine.old) session)) }
+    requires known { session < terms.now.scripts.sessions }
+    requires locked { (name : List ℕ) × IsLocked terms.now (parts_of machine.old) session seat xact (statements.AddColumn name column.now) at }
+    ensures kept { OnOk result (IsKept terms.now (parts_of machine.new)) }
+    ensures went { IfOk result (λ refused. Went terms.now session (past_in machine.old) (past_in machine.new) refused (driver (past_in machine.old)) (IsLeast (past_in machine.old) session)) }
     ensures err { OnErr result (IsSame (parts_of machine.old) (parts_of machine.new)) }
 {
     let reader = Reader {
         xact,
         committed: &machine.committed,
     };
-    let Some(at) = position_of(&machine.tables, &reader, name) else {
-        return unknown(alloc, scripts, machine, session, seat, name);
-    };
     let table = &machine.tables[at];
     let number = table.number;
-    let mode = Mode::AccessExclusive;
-    if !machine.locks.holds(session, number, mode) {
-        return ask(scripts, machine, session, seat, xact, number, mode);
-    }
     let columns = columns_of(alloc, &reader, table)?;
+    let so_far = plus(machine.weight, 1)?;
+    let over_limit = over(terms.weight, so_far, 1)?;
+    let found = alter_cause(alloc, columns.as_slice(), column)?;
     machine.journal.reserve(2)?;
-    if let Some(cause) = alter_cause(alloc, columns.as_slice(), column)? {
-        machine.journal.note(Entry::Look { xact });
-        refuse(scripts, machine, session, seat, cause);
+    if let Some(cause) = first_of(found, over_limit) {
+        note_heavy(machine, Entry::Look { xact }, 1);
+        refuse(terms, machine, session, seat, cause);
         return Ok(true);
     }
     let column = StoredColumn {
@@ -344,20 +554,16 @@ pub fn add_column(
         column: column.copied(alloc)?,
     };
     push_column(&mut machine.tables, at, column)?;
-    machine.journal.note(Entry::Look { xact });
-    machine.journal.note(Entry::Alter {
+    note_heavy(machine, Entry::Look { xact }, 1);
+    let act = Entry::Alter {
         xact,
         table: number,
         statement: 0,
         rewritten: RewrittenList::new(alloc),
-    });
+    };
+    note_heavy(machine, act, 1);
     let tag = Tag::AlterTable;
-    done(
-        scripts,
-        machine,
-        session,
-        seat,
-        Reply::Tag { tag, count: 0 },
-    );
+    let reply = Reply::Tag { tag, count: 0 };
+    done(terms, machine, session, seat, reply);
     Ok(false)
 }

@@ -1,5 +1,5 @@
 //! The tables as they are kept: one list of all that was ever made, which serves every reader.
-ghost use Rattle.std.specs.Prelude.{◌≡◌, ◌<◌, ◌≤◌, ◌++◌, ◌∷◌, [], true, map, length, drop, slice_get, slice_set, option_map, vec_len, Some, IfOk, IfSome, IfNone, OnOk, OnErr, get_or};
+ghost use Rattle.std.specs.Prelude.{◌≡◌, ◌<◌, ◌≤◌, ◌+◌, ◌++◌, ◌∷◌, [], true, map, length, drop, slice_get, slice_set, option_map, vec_len, Some, IfOk, IfSome, IfNone, OnOk, OnErr, get_or};
 ghost use Rattle.al_history.specs.Change.{filled, shape_of};
 ghost use Rattle.al_history.specs.Database.{named, has_column};
 ghost use Rattle.al_history.specs.Query.{answer};
@@ -7,8 +7,9 @@ ghost use Rattle.al_history.specs.Store.{shown_columns, shown_values, shown_tabl
 ghost use Rattle.al_engine.specs.Stored.{slot_of, row_of, kept_of, all_kept, seen_by, answers, names_of, with_stored_row, with_stored_column, makers_in, is_among, first_among};
 
 use al_history::{Column, Shape};
-use al_values::{Copied, ListOf, Name, NameList, NoMemory, Row, RowList, Value};
+use al_values::{Copied, ListOf, Name, NameList, NoMemory, Row, RowList, Steps, Value};
 use std::alloc::Global;
+use std::sync::ledger::Ledger;
 
 /// A column as it is kept.
 #[derive(Debug, Drop)]
@@ -114,28 +115,42 @@ fn seen_columns(
 }
 
 /// The values of all rows of a table that the reader sees, in the columns that it sees. A row has the defaults of the columns
-/// that were added after it.
-pub fn rows_of(alloc: Global, reader: &Reader<'_>, table: &StoredTable) -> Result<RowList, NoMemory>
-    ensures { let f = seen_by (Some reader.now.xact) reader.now.committed.now in IfOk result (λ rows. rows ≡ answer (shown_table f (kept_of table.now))) }
+/// that were added after it. Each row that is kept is a step, seen or not.
+pub fn rows_of<L: Ledger>(
+    alloc: Global,
+    reader: &Reader<'_>,
+    table: &StoredTable,
+    steps: &mut Steps<L>,
+) -> Result<RowList, NoMemory>
+    ensures rows { let f = seen_by (Some reader.now.xact) reader.now.committed.now in IfOk result (λ rows. rows ≡ answer (shown_table f (kept_of table.now))) }
+    ensures counted { OnOk result (steps.new ≡ steps.old + length table.now.rows) }
+    ensures grows { steps.old ≤ steps.new }
+    ensures bounded { steps.new ≤ steps.old + length table.now.rows }
 {
     seen_rows(
         alloc,
         reader,
         table.columns.as_slice(),
         table.rows.as_slice(),
+        steps,
     )
 }
 
-fn seen_rows(
+fn seen_rows<L: Ledger>(
     alloc: Global,
     reader: &Reader<'_>,
     columns: &[StoredColumn],
     rows: &[StoredRow],
+    steps: &mut Steps<L>,
 ) -> Result<RowList, NoMemory>
-    ensures { let f = seen_by (Some reader.now.xact) reader.now.committed.now in IfOk result (λ all. all ≡ answers f (map slot_of columns.now) (map row_of rows.now)) }
+    ensures rows { let f = seen_by (Some reader.now.xact) reader.now.committed.now in IfOk result (λ all. all ≡ answers f (map slot_of columns.now) (map row_of rows.now)) }
+    ensures counted { OnOk result (steps.new ≡ steps.old + length rows.now) }
+    ensures grows { steps.old ≤ steps.new }
+    ensures bounded { steps.new ≤ steps.old + length rows.now }
 {
     let mut all = ListOf::new(alloc);
     for row in rows {
+        steps.tick();
         if reader.sees(row.maker) {
             all.push(seen_values(alloc, reader, columns, &row.values)?)?;
         }

@@ -5,9 +5,11 @@ ghost use Rattle.al_history.specs.declared.statement.ScriptBlock.{ScriptBlock};
 
 use crate::{Engine, Told};
 use al_history::{Column, Entry, History, ScriptBlock, Scripts, Statement};
-use al_values::{ListOf, Name, NameList, NoMemory, Row, Value};
+use al_values::{ListOf, Name, NameList, NoMemory, Row, Steps, Value};
 use std::alloc::Global;
+use std::marker::Brand;
 use std::process::Abort;
+use std::sync::ledger::{Blank, Ledger};
 use std::test::Fail;
 
 // The blocks, by number.
@@ -20,6 +22,9 @@ const ALTER: u32 = 2;
 const COMMIT: u32 = 3;
 
 const INSERT: u32 = 4;
+
+// What a journal may weigh.
+const WEIGHT: u32 = 2_000_000;
 
 fn block(alloc: Global, session: u32, statement: Statement) -> Result<ScriptBlock, NoMemory>
     ensures session { IfOk result (λ b. b.session ≡ session) }
@@ -76,13 +81,31 @@ fn scripts(alloc: Global) -> Result<Scripts, NoMemory>
     })
 }
 
-// A turn, which closes no session.
+// A turn, which closes no session. Its steps aren't counted.
 fn turn(alloc: Global, engine: &mut Engine, session: u32) -> Result<Told, NoMemory>
-    requires known { session < engine.old.scripts.sessions }
+    requires known { session < engine.old.terms.scripts.sessions }
     ensures closed_same { OnOk result ((s : ℕ) → closed engine.new.past s ≡ closed engine.old.past s) }
-    ensures scripts { OnOk result (engine.new.scripts ≡ engine.old.scripts) }
+    ensures terms { OnOk result (engine.new.terms ≡ engine.old.terms) }
 {
-    match engine.turn(alloc, session)? {
+    turn_in::<Brand>(alloc, engine, session, Blank::new(1))
+}
+
+// A turn whose steps are counted in a new ledger.
+fn turn_in<L: Ledger>(
+    alloc: Global,
+    engine: &mut Engine,
+    session: u32,
+    blank: Blank,
+) -> Result<Told, NoMemory>
+    requires known { session < engine.old.terms.scripts.sessions }
+    requires name { blank.name ≡ L.name }
+    requires parts { blank.parts ≡ L.parts }
+    requires some { 0 < blank.parts }
+    ensures closed_same { OnOk result ((s : ℕ) → closed engine.new.past s ≡ closed engine.old.past s) }
+    ensures terms { OnOk result (engine.new.terms ≡ engine.old.terms) }
+{
+    let mut steps = Steps::<L>::new(blank);
+    match engine.turn(alloc, session, &mut steps)? {
         Told::Went { from, to, refused } => Ok(Told::Went { from, to, refused }),
         Told::Waits => Ok(Told::Waits),
         Told::Idle => Ok(Told::Idle),
@@ -92,7 +115,7 @@ fn turn(alloc: Global, engine: &mut Engine, session: u32) -> Result<Told, NoMemo
 // Turns of whoever can go on, nine at most.
 fn go_on(alloc: Global, engine: &mut Engine) -> Result<(), NoMemory>
     ensures closed_same { OnOk result ((s : ℕ) → closed engine.new.past s ≡ closed engine.old.past s) }
-    ensures scripts { OnOk result (engine.new.scripts ≡ engine.old.scripts) }
+    ensures terms { OnOk result (engine.new.terms ≡ engine.old.terms) }
 {
     for _ in 0..9 {
         if let Some(session) = engine.ready() {
@@ -104,11 +127,11 @@ fn go_on(alloc: Global, engine: &mut Engine) -> Result<(), NoMemory>
 
 // A block is given, and whoever can go on does.
 fn run(alloc: Global, engine: &mut Engine, session: u32, block: u32) -> Result<(), NoMemory>
-    requires known { session < engine.old.scripts.sessions }
-    requires of_session { option_map (λ b. b.session) (slice_get engine.old.scripts.blocks block) ≡ Some session }
+    requires known { session < engine.old.terms.scripts.sessions }
+    requires of_session { option_map (λ b. b.session) (slice_get engine.old.terms.scripts.blocks block) ≡ Some session }
     requires open { (s : ℕ) → closed engine.old.past s ≡ false }
     ensures open { OnOk result ((s : ℕ) → closed engine.new.past s ≡ false) }
-    ensures scripts { OnOk result (engine.new.scripts ≡ engine.old.scripts) }
+    ensures terms { OnOk result (engine.new.terms ≡ engine.old.terms) }
 {
     let Ok(()) = engine.give(alloc, session, block) else {
         return Err(NoMemory);
@@ -118,11 +141,11 @@ fn run(alloc: Global, engine: &mut Engine, session: u32, block: u32) -> Result<(
 
 // The table is there, session 0 has altered it in a block, and the INSERT of session 1 waits.
 fn waiting(alloc: Global) -> Result<Engine, NoMemory>
-    ensures sessions { IfOk result (λ engine. engine.scripts.sessions ≡ 2) }
-    ensures commit { IfOk result (λ engine. option_map (λ b. b.session) (slice_get engine.scripts.blocks 3) ≡ Some 0) }
+    ensures sessions { IfOk result (λ engine. engine.terms.scripts.sessions ≡ 2) }
+    ensures commit { IfOk result (λ engine. option_map (λ b. b.session) (slice_get engine.terms.scripts.blocks 3) ≡ Some 0) }
     ensures open { IfOk result (λ (engine : Ran). (s : ℕ) → closed engine.past s ≡ false) }
 {
-    let mut engine = Engine::open(alloc, scripts(alloc)?)?;
+    let mut engine = Engine::open(alloc, scripts(alloc)?, WEIGHT)?;
     run(alloc, &mut engine, 0, CREATE)?;
     run(alloc, &mut engine, 0, BEGIN)?;
     run(alloc, &mut engine, 0, ALTER)?;
@@ -208,5 +231,23 @@ fn waits_for_close(rt: HostRuntime) -> Result<(), Fail> {
         kinds(rt.alloc(), engine.history())?.as_str(),
         "gslmdcegsdegkladegswbkzlidce"
     );
+    Ok(())
+}
+
+// The table is made, where the journal may weigh so much.
+fn created(alloc: Global, weight: u32) -> Result<Engine, NoMemory> {
+    let mut engine = Engine::open(alloc, scripts(alloc)?, weight)?;
+    run(alloc, &mut engine, 0, CREATE)?;
+    Ok(engine)
+}
+
+// A Look weighs 1, and the Make of a table of one column 2.
+#[test]
+fn ends_at_the_limit(rt: HostRuntime) -> Result<(), Fail> {
+    let rows = [(0, "gsfbe"), (2, "gslfbe"), (3, "gslmdce")];
+    for (weight, entries) in rows {
+        let engine = created(rt.alloc(), weight)?;
+        assert_eq!(rt; kinds(rt.alloc(), engine.history())?.as_str(), entries);
+    }
     Ok(())
 }

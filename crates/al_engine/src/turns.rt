@@ -1,8 +1,9 @@
 //! A turn of a session that can go on: a transaction begins or ends, or the statement in hand goes on.
-ghost use Rattle.std.specs.Prelude.{◌≡◌, ◌<◌, ◌++◌, ◌-◌, true, false, cond, Some, None, IsSome, IfOk, OnOk, OnErr, slice_get, length, option_map, replicate};
+ghost use Rattle.std.specs.Prelude.{◌≡◌, ◌<◌, ◌≤◌, ◌+◌, ◌++◌, ◌-◌, true, false, cond, Some, None, IsSome, IfOk, OnOk, OnErr, slice_get, length, option_map, replicate};
 ghost use Rattle.al_history.specs.declared.entry.Tag.TheVariants as tags;
 ghost use Rattle.al_history.specs.declared.statement.Statement.TheVariants as statements;
 ghost use Rattle.al_history.specs.Hand.{NoBlock, opened, statement_of};
+ghost use Rattle.al_history.specs.Made.{row_entries};
 ghost use Rattle.al_history.specs.Rules.{starts, commit_tag};
 ghost use Rattle.al_history.specs.Whole.{driver, IsLeast};
 ghost use Rattle.al_history.specs.Waits.{can_go_on};
@@ -14,141 +15,143 @@ ghost use Rattle.al_engine.specs.Kept.{parts_of, past_in, IsKept, IsSame};
 
 use crate::machine::{Machine, abort, commit, end_step, refuse};
 use crate::sessions::{Block, Session};
-use crate::statements::{add_column, create_table, insert, select};
-use al_history::{Cause, Entry, Level, Reply, Scripts, Statement, Tag};
-use al_values::NoMemory;
+use crate::statements::{create_table, use_table};
+use al_history::{Cause, Entry, Level, Reply, Statement, Tag, Terms};
+use al_values::{NoMemory, Steps};
 use std::alloc::Global;
+use std::sync::ledger::Ledger;
 
-/// Goes on with the step in hand of a session that isn't held up. It tells whether its statement was refused.
-pub fn go_on(
+/// Goes on with the step in hand of a session that isn't held up, and counts the row versions that it reads. It tells whether its
+/// statement was refused.
+pub fn go_on<L: Ledger>(
     alloc: Global,
-    scripts: &Scripts,
+    terms: &Terms,
     machine: &mut Machine,
     session: u32,
     seat: Session,
+    steps: &mut Steps<L>,
 ) -> Result<bool, NoMemory>
-    requires known { session < scripts.now.sessions }
-    requires kept { IsKept scripts.now (parts_of machine.old) }
+    requires known { session < terms.now.scripts.sessions }
+    requires kept { IsKept terms.now (parts_of machine.old) }
     requires seat { slice_get machine.old.sessions.items session ≡ Some seat }
     requires goes { can_go_on (past_in machine.old) session ≡ true }
-    ensures kept { OnOk result (IsKept scripts.now (parts_of machine.new)) }
-    ensures went { IfOk result (λ refused. Went scripts.now session (past_in machine.old) (past_in machine.new) refused (driver (past_in machine.old)) (IsLeast (past_in machine.old) session)) }
-    ensures light { OnErr result (ends_block (statement_of scripts.now seat.hand 0) ≡ false) }
+    ensures kept { OnOk result (IsKept terms.now (parts_of machine.new)) }
+    ensures went { IfOk result (λ refused. Went terms.now session (past_in machine.old) (past_in machine.new) refused (driver (past_in machine.old)) (IsLeast (past_in machine.old) session)) }
+    ensures light { OnErr result (ends_block (statement_of terms.now seat.hand 0) ≡ false) }
     ensures err { OnErr result (IsSame (parts_of machine.old) (parts_of machine.new)) }
+    ensures counted { steps.old ≤ steps.new }
+    ensures bounded { steps.new ≤ steps.old + row_entries (past_in machine.old) }
 {
-    let statement = statement_at(scripts, seat);
+    let statement = statement_at(terms, seat);
     match statement {
         Statement::Commit => {
-            end_block(scripts, machine, session, seat, true);
+            end_block(terms, machine, session, seat, true);
             Ok(false)
         }
         Statement::Rollback => {
-            end_block(scripts, machine, session, seat, false);
+            end_block(terms, machine, session, seat, false);
             Ok(false)
         }
-        other => go_on_in_block(alloc, scripts, machine, session, seat, other),
+        other => go_on_in_block(alloc, terms, machine, session, seat, other, steps),
     }
 }
 
 /// Goes on with a statement that isn't COMMIT or ROLLBACK: in a failed block it is refused, and where no transaction is open one
 /// begins.
-fn go_on_in_block(
+fn go_on_in_block<L: Ledger>(
     alloc: Global,
-    scripts: &Scripts,
+    terms: &Terms,
     machine: &mut Machine,
     session: u32,
     seat: Session,
     statement: &Statement,
+    steps: &mut Steps<L>,
 ) -> Result<bool, NoMemory>
-    requires known { session < scripts.now.sessions }
-    requires kept { IsKept scripts.now (parts_of machine.old) }
+    requires known { session < terms.now.scripts.sessions }
+    requires kept { IsKept terms.now (parts_of machine.old) }
     requires seat { slice_get machine.old.sessions.items session ≡ Some seat }
     requires goes { can_go_on (past_in machine.old) session ≡ true }
-    requires statement { statement_of scripts.now seat.hand 0 ≡ Some statement.now }
+    requires statement { statement_of terms.now seat.hand 0 ≡ Some statement.now }
     requires goes_on { starts NoBlock statement.now ≡ true }
-    ensures kept { OnOk result (IsKept scripts.now (parts_of machine.new)) }
-    ensures went { IfOk result (λ refused. Went scripts.now session (past_in machine.old) (past_in machine.new) refused (driver (past_in machine.old)) (IsLeast (past_in machine.old) session)) }
+    ensures kept { OnOk result (IsKept terms.now (parts_of machine.new)) }
+    ensures went { IfOk result (λ refused. Went terms.now session (past_in machine.old) (past_in machine.new) refused (driver (past_in machine.old)) (IsLeast (past_in machine.old) session)) }
     ensures err { OnErr result (IsSame (parts_of machine.old) (parts_of machine.new)) }
+    ensures counted { steps.old ≤ steps.new }
+    ensures bounded { steps.new ≤ steps.old + row_entries (past_in machine.old) }
 {
     if let Block::Failed { refuse: place } = seat.block {
         let cause = Cause::BlockFailed { refuse: place };
-        refuse(scripts, machine, session, seat, cause);
+        refuse(terms, machine, session, seat, cause);
         return Ok(true);
     }
     match seat.xact {
-        Some(xact) => run(alloc, scripts, machine, session, seat, xact, statement),
+        Some(xact) => run(alloc, terms, machine, session, seat, xact, statement, steps),
         None => {
-            begin(scripts, machine, session, seat)?;
+            begin(terms, machine, session, seat)?;
             Ok(false)
         }
     }
 }
 
 /// Goes on with a statement of an open transaction.
-fn run(
+fn run<L: Ledger>(
     alloc: Global,
-    scripts: &Scripts,
+    terms: &Terms,
     machine: &mut Machine,
     session: u32,
     seat: Session,
     xact: u32,
     statement: &Statement,
+    steps: &mut Steps<L>,
 ) -> Result<bool, NoMemory>
-    requires known { session < scripts.now.sessions }
-    requires kept { IsKept scripts.now (parts_of machine.old) }
+    requires known { session < terms.now.scripts.sessions }
+    requires kept { IsKept terms.now (parts_of machine.old) }
     requires seat { slice_get machine.old.sessions.items session ≡ Some seat }
     requires goes { can_go_on (past_in machine.old) session ≡ true }
     requires in_xact { seat.xact ≡ Some xact }
-    requires statement { statement_of scripts.now seat.hand 0 ≡ Some statement.now }
+    requires statement { statement_of terms.now seat.hand 0 ≡ Some statement.now }
     requires goes_on { starts NoBlock statement.now ≡ true }
-    ensures kept { OnOk result (IsKept scripts.now (parts_of machine.new)) }
-    ensures went { IfOk result (λ refused. Went scripts.now session (past_in machine.old) (past_in machine.new) refused (driver (past_in machine.old)) (IsLeast (past_in machine.old) session)) }
+    ensures kept { OnOk result (IsKept terms.now (parts_of machine.new)) }
+    ensures went { IfOk result (λ refused. Went terms.now session (past_in machine.old) (past_in machine.new) refused (driver (past_in machine.old)) (IsLeast (past_in machine.old) session)) }
     ensures err { OnErr result (IsSame (parts_of machine.old) (parts_of machine.new)) }
+    ensures counted { steps.old ≤ steps.new }
+    ensures bounded { steps.new ≤ steps.old + row_entries (past_in machine.old) }
 {
     match statement {
         Statement::Commit | Statement::Rollback => unreachable!(),
         Statement::Begin => {
-            begin_block(scripts, machine, session, seat);
+            begin_block(terms, machine, session, seat);
             Ok(false)
         }
         Statement::CreateTable { table, columns } => create_table(
-            alloc, scripts, machine, session, seat, xact, table, columns,
+            alloc, terms, machine, session, seat, xact, table, columns,
         ),
-        Statement::Insert { table, values } => insert(
-            alloc, scripts, machine, session, seat, xact, table, values,
-        ),
-        Statement::Select { table } => select(alloc, scripts, machine, session, seat, xact, table),
-        Statement::AddColumn { table, column } => add_column(
-            alloc, scripts, machine, session, seat, xact, table, column,
-        ),
+        Statement::Insert { .. } | Statement::Select { .. } | Statement::AddColumn { .. } => {
+            use_table(alloc, terms, machine, session, seat, xact, statement, steps)
+        }
     }
 }
 
 /// The one statement of a session's step in hand.
-fn statement_at(scripts: &Scripts, seat: Session) -> &Statement
-    requires { IsSome (statement_of scripts.now seat.hand 0) }
-    ensures { statement_of scripts.now seat.hand 0 ≡ Some result.now }
+fn statement_at(terms: &Terms, seat: Session) -> &Statement
+    requires { IsSome (statement_of terms.now seat.hand 0) }
+    ensures { statement_of terms.now seat.hand 0 ≡ Some result.now }
 {
     let block = seat.hand.unwrap();
-    let block = scripts.blocks.get(block as usize).unwrap();
+    let block = terms.scripts.blocks.get(block as usize).unwrap();
     block.script.get(0).unwrap()
 }
 
 /// A transaction begins.
-fn begin(
-    _scripts: &Scripts,
-    machine: &mut Machine,
-    session: u32,
-    seat: Session,
-) -> Result<(), NoMemory>
-    requires known { session < _scripts.now.sessions }
-    requires kept { IsKept _scripts.now (parts_of machine.old) }
+fn begin(_terms: &Terms, machine: &mut Machine, session: u32, seat: Session) -> Result<(), NoMemory>
+    requires known { session < _terms.now.scripts.sessions }
+    requires kept { IsKept _terms.now (parts_of machine.old) }
     requires seat { slice_get machine.old.sessions.items session ≡ Some seat }
     requires goes { can_go_on (past_in machine.old) session ≡ true }
-    requires statement { option_map (starts (state_of seat.block)) (statement_of _scripts.now seat.hand 0) ≡ Some true }
+    requires statement { option_map (starts (state_of seat.block)) (statement_of _terms.now seat.hand 0) ≡ Some true }
     requires none_open { seat.xact ≡ None }
-    ensures kept { OnOk result (IsKept _scripts.now (parts_of machine.new)) }
-    ensures went { OnOk result (Went _scripts.now session (past_in machine.old) (past_in machine.new) false (driver (past_in machine.old)) (IsLeast (past_in machine.old) session)) }
+    ensures kept { OnOk result (IsKept _terms.now (parts_of machine.new)) }
+    ensures went { OnOk result (Went _terms.now session (past_in machine.old) (past_in machine.new) false (driver (past_in machine.old)) (IsLeast (past_in machine.old) session)) }
     ensures err { OnErr result (IsSame (parts_of machine.old) (parts_of machine.new)) }
 {
     let xact = machine.journal.len();
@@ -200,15 +203,15 @@ fn end_tag(block: Block, commits: bool) -> Tag
 }
 
 /// BEGIN is done: the session's open transaction is a block from now on.
-fn begin_block(_scripts: &Scripts, machine: &mut Machine, session: u32, seat: Session)
-    requires known { session < _scripts.now.sessions }
-    requires kept { IsKept _scripts.now (parts_of machine.old) }
+fn begin_block(_terms: &Terms, machine: &mut Machine, session: u32, seat: Session)
+    requires known { session < _terms.now.scripts.sessions }
+    requires kept { IsKept _terms.now (parts_of machine.old) }
     requires seat { slice_get machine.old.sessions.items session ≡ Some seat }
     requires goes { can_go_on (past_in machine.old) session ≡ true }
     requires in_xact { IsSome seat.xact }
-    requires statement { statement_of _scripts.now seat.hand 0 ≡ Some statements.Begin }
-    ensures kept { IsKept _scripts.now (parts_of machine.new) }
-    ensures went { Went _scripts.now session (past_in machine.old) (past_in machine.new) false (driver (past_in machine.old)) (IsLeast (past_in machine.old) session) }
+    requires statement { statement_of _terms.now seat.hand 0 ≡ Some statements.Begin }
+    ensures kept { IsKept _terms.now (parts_of machine.new) }
+    ensures went { Went _terms.now session (past_in machine.old) (past_in machine.new) false (driver (past_in machine.old)) (IsLeast (past_in machine.old) session) }
 {
     let tag = Tag::Begin;
     machine.journal.note(Entry::Done {
@@ -220,16 +223,16 @@ fn begin_block(_scripts: &Scripts, machine: &mut Machine, session: u32, seat: Se
 }
 
 /// COMMIT or ROLLBACK is done: the session's open transaction ends, where it has one, and its block.
-fn end_block(_scripts: &Scripts, machine: &mut Machine, session: u32, seat: Session, commits: bool)
-    requires known { session < _scripts.now.sessions }
-    requires kept { IsKept _scripts.now (parts_of machine.old) }
+fn end_block(_terms: &Terms, machine: &mut Machine, session: u32, seat: Session, commits: bool)
+    requires known { session < _terms.now.scripts.sessions }
+    requires kept { IsKept _terms.now (parts_of machine.old) }
     requires seat { slice_get machine.old.sessions.items session ≡ Some seat }
     requires goes { can_go_on (past_in machine.old) session ≡ true }
-    requires statement { statement_of _scripts.now seat.hand 0 ≡ Some (cond commits statements.Commit statements.Rollback) }
-    ensures kept { IsKept _scripts.now (parts_of machine.new) }
-    ensures went { Went _scripts.now session (past_in machine.old) (past_in machine.new) false (driver (past_in machine.old)) (IsLeast (past_in machine.old) session) }
+    requires statement { statement_of _terms.now seat.hand 0 ≡ Some (cond commits statements.Commit statements.Rollback) }
+    ensures kept { IsKept _terms.now (parts_of machine.new) }
+    ensures went { Went _terms.now session (past_in machine.old) (past_in machine.new) false (driver (past_in machine.old)) (IsLeast (past_in machine.old) session) }
 {
-    end_xact(_scripts, machine, session, seat, commits);
+    end_xact(_terms, machine, session, seat, commits);
     let tag = end_tag(seat.block, commits);
     machine.journal.note(Entry::Done {
         session,
@@ -247,13 +250,13 @@ fn end_block(_scripts: &Scripts, machine: &mut Machine, session: u32, seat: Sess
 }
 
 /// The session's open transaction ends by COMMIT or ROLLBACK, where it has one.
-fn end_xact(_scripts: &Scripts, machine: &mut Machine, session: u32, seat: Session, commits: bool)
-    requires known { session < _scripts.now.sessions }
-    requires kept { IsKept _scripts.now (parts_of machine.old) }
+fn end_xact(_terms: &Terms, machine: &mut Machine, session: u32, seat: Session, commits: bool)
+    requires known { session < _terms.now.scripts.sessions }
+    requires kept { IsKept _terms.now (parts_of machine.old) }
     requires seat { slice_get machine.old.sessions.items session ≡ Some seat }
     requires goes { can_go_on (past_in machine.old) session ≡ true }
-    requires statement { statement_of _scripts.now seat.hand 0 ≡ Some (cond commits statements.Commit statements.Rollback) }
-    ensures { IsEnded _scripts.now (parts_of machine.new) session seat (past_in machine.old) commits }
+    requires statement { statement_of _terms.now seat.hand 0 ≡ Some (cond commits statements.Commit statements.Rollback) }
+    ensures { IsEnded _terms.now (parts_of machine.new) session seat (past_in machine.old) commits }
 {
     match seat.xact {
         None => {}

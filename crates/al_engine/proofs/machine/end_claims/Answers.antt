@@ -18,5 +18,6 @@ loop-i-preserved c =
       locks = c.loop-i.invariant.locks;
       tables = c.loop-i.invariant.tables;
       committed = c.loop-i.invariant.committed;
+      weight = c.loop-i.invariant.weight;
       room = omega (arith, c.note.ensures.room, c.loop-i.invariant.room);
     }

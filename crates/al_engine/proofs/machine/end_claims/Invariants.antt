@@ -11,5 +11,6 @@ invariant-loop-i l = record {
   locks : l.machine.locks ≡ l.initial.machine.locks;
   tables : l.machine.tables.items ≡ l.initial.machine.tables.items;
   committed : l.machine.committed.items ≡ l.initial.machine.committed.items;
+  weight : l.machine.weight ≡ l.initial.machine.weight;
   room : l.machine.journal.room + l.i ≡ l.initial.machine.journal.room;
 }

@@ -16,7 +16,7 @@ end_step-requires-clause-room c =
 pub returns-clause-kept : goal.returns-clause-kept
 returns-clause-kept c =
     let over = begin_over _ (parts_of c.args.machine.now) _ _ c.requires.kept c.requires.seat c.requires.goes c.requires.in_xact c.requires.statement in
-    over_kept _ _ _ _ _ _ _ _ _ over (parts_of (record { journal = c.note.new.self; sessions = c.args.machine.now.sessions; tables = c.args.machine.now.tables; locks = c.args.machine.now.locks; committed = c.args.machine.now.committed })) _ c.opened-block.result c.opened-block.ensures c.note.ensures.past c.note.ensures.room refl refl refl refl c.end_step.ensures.past c.end_step.ensures.room c.end_step.ensures.sessions c.end_step.ensures.tables c.end_step.ensures.locks c.end_step.ensures.committed
+    over_kept _ _ _ _ _ _ _ _ _ over (parts_of (record { journal = c.note.new.self; sessions = c.args.machine.now.sessions; tables = c.args.machine.now.tables; locks = c.args.machine.now.locks; committed = c.args.machine.now.committed; weight = c.args.machine.now.weight })) _ c.opened-block.result c.opened-block.ensures c.note.ensures.past c.note.ensures.room refl refl refl refl refl c.end_step.ensures.past c.end_step.ensures.room c.end_step.ensures.sessions c.end_step.ensures.tables c.end_step.ensures.locks c.end_step.ensures.committed c.end_step.ensures.weight
 
 pub returns-clause-went : goal.returns-clause-went
 returns-clause-went c =

@@ -3,4 +3,4 @@ use Rattle.al_engine.proofs.TurnLemmas.{statement_there}
 use Rattle.al_engine.proofs.turns.go_on.Goals as goal
 
 pub statement_at-statement-requires : goal.statement_at-statement-requires
-statement_at-statement-requires c = statement_there _ (parts_of c.args.machine.now) _ _ c.requires.kept c.requires.seat c.requires.goes
+statement_at-statement-requires g c = statement_there _ (parts_of c.args.machine.now) _ _ c.requires.kept c.requires.seat c.requires.goes
