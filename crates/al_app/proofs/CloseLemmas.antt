@@ -9,7 +9,7 @@ use Rattle.al_history.specs.declared.entry.Entry.TheVariants.{Close}
 use Rattle.al_history.specs.declared.run.Setup.{Setup}
 use Rattle.al_history.specs.declared.run.Setup.TheVariants as setups
 use Rattle.al_history.specs.declared.spec.Spec.{Spec}
-use Rattle.al_history.specs.declared.statement.Scripts.{Scripts}
+use Rattle.al_history.specs.declared.statement.Terms.{Terms}
 use Rattle.al_history.specs.Kept.{Kept}
 use Rattle.al_history.specs.Past.{Past, past_of}
 use Rattle.al_history.specs.Hand.{hand, closed}
@@ -53,21 +53,21 @@ cancel_goes_on spec steps old new count true known so_far cancel =
     }
 
 pub cancels_begin : (ran : Ran) → IsAtRest ran → SessionsCancelled ran ran 0
-cancels_begin ran rest = record { rest = rest; scripts = refl; goes_on = λ spec steps known done. cancel_begins spec steps ran done }
+cancels_begin ran rest = record { rest = rest; terms = refl; goes_on = λ spec steps known done. cancel_begins spec steps ran done }
 
 pub cancels_go_on : (old mid new : Ran) (count : ℕ) (cancelled : Bool) → SessionsCancelled old mid count → CancelsIfBusy mid new count cancelled → SessionsCancelled old new (count + 1)
 cancels_go_on old mid new count cancelled so_far did = record {
   rest = rest cancelled did;
-  scripts = scripts cancelled did ∙ so_far.scripts;
+  terms = terms cancelled did ∙ so_far.terms;
   goes_on = λ spec steps known done. cancel_goes_on spec steps mid new count cancelled (omega arith) (so_far.goes_on spec steps (omega arith) done) did;
 } where
   rest : (cancelled : Bool) → CancelsIfBusy mid new count cancelled → IsAtRest new
   rest true did = did.rest
   rest false did = subst IsAtRest (sym did.same) so_far.rest
 
-  scripts : (cancelled : Bool) → CancelsIfBusy mid new count cancelled → new.scripts ≡ mid.scripts
-  scripts true did = did.scripts
-  scripts false did = ap (λ (ran : Ran). ran.scripts) did.same
+  terms : (cancelled : Bool) → CancelsIfBusy mid new count cancelled → new.terms ≡ mid.terms
+  terms true did = did.terms
+  terms false did = ap (λ (ran : Ran). ran.terms) did.same
 
 -- ---- closes
 
@@ -116,7 +116,7 @@ sessions_more first (suc count) = let n : first + 1 + count ≡ first + suc coun
 
 pub closes_begin : (ran : Ran) (first : ℕ) → SessionsClosed ran ran first first
 closes_begin ran first = record {
-  scripts = refl;
+  terms = refl;
   hands = λ s. refl;
   closed_same = λ s apart. refl;
   failed = λ spec. refl;
@@ -127,7 +127,7 @@ pub closes_go_on : (old mid new : Ran) (first session : ℕ) → first ≤ sessi
 closes_go_on old mid new first session le stands so_far legal did =
     let still : closed mid.past session ≡ false = so_far.closed_same session (inr (omega arith)) ∙ stands in
     record {
-      scripts = did.scripts ∙ so_far.scripts;
+      terms = did.terms ∙ so_far.terms;
       hands = λ s. did.hands s ∙ so_far.hands s;
       closed_same = λ s apart. did.closed_now s ∙ rw (other s apart) (so_far.closed_same s (nearer s apart));
       failed = λ spec. did.failed spec ∙ so_far.failed spec;
@@ -222,8 +222,8 @@ setup_back setups.Done = refl
 setup_back (setups.Failed block) = refl
 
 -- the run as a whole
-pub is_run : (spec : Spec) (scripts : Scripts) (number : ℕ) (steps : List ℕ) (setup : Setup) (ran : Ran) (history : Kept) → ran.scripts ≡ scripts → past_of history ≡ ran.past → IsEnded spec ran steps setup → IsRun spec scripts number steps (record { permutation = number; setup = setup; history = history })
-is_run spec scripts number steps setup ran history same journal over =
+pub is_run : (spec : Spec) (terms : Terms) (number : ℕ) (steps : List ℕ) (setup : Setup) (ran : Ran) (history : Kept) → ran.terms ≡ terms → past_of history ≡ ran.past → IsEnded spec ran steps setup → IsRun spec terms number steps (record { permutation = number; setup = setup; history = history })
+is_run spec terms number steps setup ran history same journal over =
     let closing = over.closing in
     let all_closed = subst (AllByRecursion (λ (r : ℕ). closed ran.past r ≡ true)) (sym (closing.order ∙ append-nil closing.before)) closing.closed_before in
     record {
@@ -235,6 +235,6 @@ is_run spec scripts number steps setup ran history same journal over =
         all_done = due_none spec steps ran.past closing.before closing.stopped closing.none_busy closing.order closing.closed_before;
         all_closed = closed_in_order spec ran.past (failed_setup spec ran.past) all_closed;
       });
-      holding = hold_always scripts _;
+      holding = hold_always terms _;
       setup = setup_back setup ∙ rw (journal, over.failed) refl;
     }

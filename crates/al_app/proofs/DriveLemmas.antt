@@ -28,7 +28,7 @@ pub has_turned : (old new : Ran) (session from to : ℕ) (refused : Bool) → Is
 has_turned old new session from to refused least legal few did =
     record {
       went = record {
-        scripts = did.goes_on.scripts;
+        terms = did.goes_on.terms;
         legal = λ before. legal;
         in_turn = did.in_turn least;
         quietly = quietly_extended session old.past new.past did.goes_on.extends did.driven;
@@ -44,7 +44,7 @@ has_turned old new session from to refused least legal few did =
 
 pub went_not : (ran : Ran) → WentOnInTurn ran ran false
 went_not ran = record {
-  scripts = refl;
+  terms = refl;
   legal = λ legal. legal;
   in_turn = λ driven. driven;
   quietly = quietly_not ran.past;
@@ -90,7 +90,7 @@ failed_twice failed mid part false false is = is
 
 pub went_then : (old mid new : Ran) (r1 r2 : Bool) → WentOnInTurn old mid r1 → WentOnInTurn mid new r2 → WentOnInTurn old new (r1 || r2)
 went_then old mid new r1 r2 first then = record {
-  scripts = then.scripts ∙ first.scripts;
+  terms = then.terms ∙ first.terms;
   legal = λ legal. then.legal (first.legal legal);
   in_turn = λ driven. then.in_turn (first.in_turn driven);
   quietly = quietly_then old.past mid.past new.past first.quietly then.quietly;
@@ -122,7 +122,7 @@ was_cancelled old mid new session refused rest legal did driven =
     let hands_mid = λ (s : ℕ). hand_after old.past mid.past session s did.goes_on.own did.goes_on.others in
     record {
       rest = record { legal = driven.went.legal legal; in_turn = driven.went.in_turn (did.in_turn rest.idle rest.in_turn); idle = driven.idle };
-      scripts = driven.went.scripts ∙ did.goes_on.scripts;
+      terms = driven.went.terms ∙ did.goes_on.terms;
       in_step = did.goes_on.in_step;
       as_due = λ spec steps due_so all. quietly.as_due spec steps (due_so, all);
       gives_same = quietly.gives_same;

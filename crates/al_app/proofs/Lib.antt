@@ -9,6 +9,7 @@ pub mod TopLemmas
 pub mod AnswerLemmas
 mod FirstVectors
 mod ReportVectors
+mod RunVectors
 pub mod QuietLemmas
 pub mod CloseLemmas
 pub mod RunLemmas

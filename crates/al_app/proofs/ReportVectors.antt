@@ -8,6 +8,7 @@ use Rattle.al_history.specs.declared.entry.Cause.TheVariants as causes
 use Rattle.al_history.specs.declared.entry.Entry.{Entry}
 use Rattle.al_history.specs.declared.entry.Entry.TheVariants as entries
 use Rattle.al_history.specs.declared.entry.Reply.TheVariants as replies
+use Rattle.al_history.specs.declared.entry.RunLimit.TheVariants as limits
 use Rattle.al_history.specs.declared.entry.Tag.TheVariants as tags
 use Rattle.al_history.specs.declared.entry.Want.TheVariants as wants
 use Rattle.al_history.specs.declared.run.Run.{Run}
@@ -16,7 +17,7 @@ use Rattle.al_history.specs.declared.run.Setup.TheVariants as setups
 use Rattle.al_history.specs.declared.spec.Block.{Block}
 use Rattle.al_history.specs.declared.spec.Part.TheVariants as parts
 use Rattle.al_history.specs.declared.spec.Spec.{Spec}
-use Rattle.al_app.specs.Report.{report, run_text, blocked_text, name_text, is_plain, step_text, row_count_text, waits}
+use Rattle.al_app.specs.Report.{report, run_text, blocked_text, name_text, is_plain, step_text, cause_text, row_count_text, waits}
 
 -- one session, two setup blocks, two steps and the permutation of both
 abbrev spec_with : List ℕ → Spec
@@ -177,6 +178,13 @@ cancelled_setup :
     ≡ codes "Parsed test spec with 3 sessions\n\nstarting permutation: b\nsetup 1\nERROR: 57014: cancelled\nsetup failed\n"
 unfolding report run_text blocked_text name_text is_plain step_text digits
 cancelled_setup = refl
+
+-- a limit of the run is told without the count
+journal_limit : cause_text (causes.Limit limits.Journal 2000001) ≡ codes "54000: limit of journal passed"
+journal_limit = refl
+
+journal_limit_is_no_cancel : cause_text (causes.Limit limits.Journal 2000001) ≢ codes "57014: cancelled"
+journal_limit_is_no_cancel e = cc e
 
 -- an End that comes after the next Give is in a later part, one of another session is none of the step's
 late_end_waits : waits parts.Step 2 (entries.Give 1 4 ∷ entries.End 2 ∷ []) ≢ false

@@ -29,9 +29,9 @@ each_at (b ∷ blocks) (s ∷ scripts) zero block each is = let e : b ≡ block 
 each_at (b ∷ blocks) (s ∷ scripts) (suc number) block each is = each_at blocks scripts number block each.1 is
 
 -- a block of the spec may be given to its session
-pub of_session_at : (spec : Spec) (ran : Ran) (number : ℕ) (block : Block) → IsRunnable spec ran.scripts → slice_get spec.blocks number ≡ Some block → option_map (λ (b : ScriptBlock). b.session) (slice_get ran.scripts.blocks number) ≡ Some block.session
+pub of_session_at : (spec : Spec) (ran : Ran) (number : ℕ) (block : Block) → IsRunnable spec ran.terms.scripts → slice_get spec.blocks number ≡ Some block → option_map (λ (b : ScriptBlock). b.session) (slice_get ran.terms.scripts.blocks number) ≡ Some block.session
 of_session_at spec ran number block runnable is =
-    let at = each_at spec.blocks ran.scripts.blocks number block runnable.each is in
+    let at = each_at spec.blocks ran.terms.scripts.blocks number block runnable.each is in
     rw (at.1, at.2.session) refl
 
 -- the session of a block is one of the run's
@@ -41,8 +41,8 @@ known_at sessions (b ∷ scripts) zero s all is = let e : b.session ≡ s = cc i
 known_at sessions (b ∷ scripts) (suc number) s all is = known_at sessions scripts number s all.1 is
 
 -- the session of a block of the spec is one of the run's
-pub block_known : (spec : Spec) (ran : Ran) (number : ℕ) (block : Block) → IsRunnable spec ran.scripts → slice_get spec.blocks number ≡ Some block → block.session < ran.scripts.sessions
-block_known spec ran number block runnable is = known_at ran.scripts.sessions ran.scripts.blocks number block.session runnable.single (of_session_at spec ran number block runnable is)
+pub block_known : (spec : Spec) (ran : Ran) (number : ℕ) (block : Block) → IsRunnable spec ran.terms.scripts → slice_get spec.blocks number ≡ Some block → block.session < ran.terms.scripts.sessions
+block_known spec ran number block runnable is = known_at ran.terms.scripts.sessions ran.terms.scripts.blocks number block.session runnable.single (of_session_at spec ran number block runnable is)
 
 -- the session that a block of the spec is given to
 session_of_block : (spec : Spec) (number : ℕ) (block : Block) → slice_get spec.blocks number ≡ Some block → session_for spec number ≡ block.session

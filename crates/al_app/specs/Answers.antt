@@ -16,6 +16,7 @@ use Rattle.al_app.specs.declared.status.Status.{Status}
 use Rattle.al_app.specs.declared.status.Status.TheVariants as statuses
 use Rattle.al_app.specs.First.{IsFirst}
 use Rattle.al_app.specs.Report.{report}
+use Rattle.al_app.specs.Runs.{terms_for}
 
 -- ---- words
 
@@ -60,7 +61,7 @@ pub record HasRun (told : Option (List ℕ)) (runs : List Run) (text : List ℕ)
   pub scripts : Scripts
   pub tells : IfSome told (λ bytes. bytes ≡ input)
   pub read : IsFirst input spec scripts
-  pub are_runs : AreRuns spec scripts runs
+  pub are_runs : AreRuns spec (terms_for spec scripts) runs
   pub printed : text ≡ report spec runs
 
 -- the bytes are no spec file of the form that is read so far
@@ -117,7 +118,7 @@ IsAnswer words told left read_failed write_failed old new runs status = IsWritte
 
 -- the journals in a list of runs are those of whole runs of one spec file that was read, for every status
 abbrev pub AreLegal : List Run → Type 0
-AreLegal runs = (runs ≡ []) ⊎ ((input : List ℕ) × (spec : Spec) × (scripts : Scripts) × IsFirst input spec scripts × AreRuns spec scripts runs)
+AreLegal runs = (runs ≡ []) ⊎ ((input : List ℕ) × (spec : Spec) × (scripts : Scripts) × IsFirst input spec scripts × AreRuns spec (terms_for spec scripts) runs)
 
 -- a run was made, or memory was wanting
 abbrev pub HasRunOrNoMemory : Status → Type 0

@@ -10,6 +10,8 @@ use Rattle.al_history.specs.declared.entry.Entry.{Entry}
 use Rattle.al_history.specs.declared.entry.Entry.TheVariants as entries
 use Rattle.al_history.specs.declared.entry.Cause.{Cause}
 use Rattle.al_history.specs.declared.entry.Cause.TheVariants as causes
+use Rattle.al_history.specs.declared.entry.RunLimit.{RunLimit}
+use Rattle.al_history.specs.declared.entry.RunLimit.TheVariants as limits
 use Rattle.al_history.specs.declared.entry.Reply.{Reply}
 use Rattle.al_history.specs.declared.entry.Reply.TheVariants as replies
 use Rattle.al_history.specs.declared.entry.Tag.{Tag}
@@ -62,6 +64,10 @@ abbrev pub many_values_text : ℕ → ℕ → List ℕ
 many_values_text want got =
     concat (codes "42601: INSERT has " ∷ decimal got ∷ codes " values for " ∷ decimal want ∷ codes " columns" ∷ [])
 
+-- what a run has a limit of
+abbrev pub limit_name : RunLimit → List ℕ
+limit_name limits.Journal = codes "journal"
+
 -- why a statement is refused: its SQLSTATE, and what is missing or in the way
 abbrev pub cause_text : Cause → List ℕ
 cause_text (causes.NoTable name) = concat (codes "42P01: table \"" ∷ name ∷ codes "\" does not exist" ∷ [])
@@ -69,6 +75,7 @@ cause_text (causes.TwiceTable name) = concat (codes "42P07: table \"" ∷ name �
 cause_text (causes.TwiceColumn name) = concat (codes "42701: column \"" ∷ name ∷ codes "\" already exists" ∷ [])
 cause_text (causes.Count want got) = many_values_text want got
 cause_text (causes.BlockFailed refuse) = codes "25P02: transaction block has failed"
+cause_text (causes.Limit what count) = concat (codes "54000: limit of " ∷ limit_name what ∷ codes " passed" ∷ [])
 cause_text (causes.Cancelled entry) = codes "57014: cancelled"
 
 -- a command tag, an INSERT's with its count

@@ -1,17 +1,26 @@
 -- What the driver did to the engine.
-use Rattle.std.specs.Prelude.{◌≡◌, ℕ, take, ◌+◌, ◌<◌, ◌≤◌, ◌^◌, Bool, true, false, List, [], ◌∷◌, ◌++◌, length, ◌⊎◌, cond, Option, Some, None, IsSome}
+use Rattle.std.specs.Prelude.{◌≡◌, ℕ, take, max, ◌/◌, ◌+◌, ◌<◌, ◌≤◌, ◌^◌, Bool, true, false, List, [], ◌∷◌, ◌++◌, length, ◌⊎◌, cond, Option, Some, None, IsSome}
 use Rattle.std.specs.List.{AllByRecursion}
 use Rattle.al_history.specs.declared.entry.Entry.TheVariants.{Give, Cancel}
 use Rattle.al_history.specs.declared.run.Setup.{Setup}
 use Rattle.al_history.specs.declared.run.Setup.TheVariants as setups
 use Rattle.al_history.specs.declared.spec.Spec.{Spec}
 use Rattle.al_history.specs.declared.statement.Scripts.{Scripts}
+use Rattle.al_history.specs.declared.statement.Terms.{Terms}
 use Rattle.al_history.specs.Past.{Past}
 use Rattle.al_history.specs.Hand.{hand, closed}
 use Rattle.al_history.specs.Whole.{setup_blocks, or_else, of_setup, failed_setup, gives, ended, next_block, give_next, due, AsDue, closing_order, sessions_from, IsIdle, Driven}
 use Rattle.al_app.specs.First.{EachWith}
 use Rattle.al_app.specs.FirstSessions.{HasOneStatement}
 use Rattle.al_engine.specs.Ran.{Ran, IsLegalRun, AreSingle}
+
+-- the most that the journal of a run may weigh: the runs of a spec share what a call may hold
+abbrev pub journal_weight : Spec → ℕ
+journal_weight spec = 8000000 / max 4 (length spec.permutations)
+
+-- what each run of a spec is held to
+abbrev pub terms_for : Spec → Scripts → Terms
+terms_for spec scripts = record { scripts = scripts; weight = journal_weight spec }
 
 -- each block has its one statement, and is of one of the sessions
 pub record IsRunnable (spec : Spec) (scripts : Scripts) : Type 0 where
@@ -41,9 +50,9 @@ HasAnyEnded old new = (s : ℕ) × IsSome (hand old s) × (hand new s ≡ None)
 
 -- Steps in hand went on, each turn that of the least session that could go on. It is told whether one was refused.
 pub record WentOnInTurn (old new : Ran) (refused : Bool) : Type 0 where
-  pub scripts : new.scripts ≡ old.scripts
+  pub terms : new.terms ≡ old.terms
   pub legal : IsLegalRun old → IsLegalRun new
-  pub in_turn : Driven old.scripts old.past → Driven new.scripts new.past
+  pub in_turn : Driven old.terms old.past → Driven new.terms new.past
   pub quietly : IsQuietly old.past new.past
   pub hands : (s : ℕ) → (hand new.past s ≡ None) ⊎ (hand new.past s ≡ hand old.past s)
   pub any_ended : refused ≡ true → HasAnyEnded old.past new.past
@@ -63,7 +72,7 @@ pub record IsDriven (old new : Ran) (refused : Bool) : Type 0 where
 -- nothing can go on: the journal is legal, and each entry came in its turn
 pub record IsAtRest (ran : Ran) : Type 0 where
   pub legal : IsLegalRun ran
-  pub in_turn : Driven ran.scripts ran.past
+  pub in_turn : Driven ran.terms ran.past
   pub idle : IsIdle ran.past
 
 abbrev pub with_given : Ran → ℕ → ℕ → Ran
@@ -78,7 +87,7 @@ pub record HasRunBlock (old new : Ran) (session block : ℕ) (refused : Bool) : 
 -- the session's step in hand was cancelled, and the run was driven
 pub record WasCancelled (old new : Ran) (session : ℕ) : Type 0 where
   pub rest : IsAtRest new
-  pub scripts : new.scripts ≡ old.scripts
+  pub terms : new.terms ≡ old.terms
   pub in_step : IsSome (hand old.past session)
   pub as_due : (spec : Spec) (steps : List ℕ) → due spec steps old.past ≡ Some (Cancel session) → AsDue spec steps old.past → AsDue spec steps new.past
   pub gives_same : gives new.past ≡ gives old.past
@@ -164,7 +173,7 @@ pub record CancelledSoFar (spec : Spec) (steps : List ℕ) (ran : Ran) (count : 
 -- busy sessions below this one were cancelled
 pub record SessionsCancelled (old new : Ran) (end : ℕ) : Type 0 where
   pub rest : IsAtRest new
-  pub scripts : new.scripts ≡ old.scripts
+  pub terms : new.terms ≡ old.terms
   pub goes_on : (spec : Spec) (steps : List ℕ) → end ≤ length spec.sessions + 1 → StepsRan spec steps old → CancelledSoFar spec steps new end
 
 -- the driver gives nothing any more: the setup part has failed, or the list has ended
@@ -174,7 +183,7 @@ HasStopped spec steps past = IsSome (failed_setup spec past) ⊎ ((ended past �
 -- sessions are being closed, and these are left
 pub record IsClosing (spec : Spec) (steps : List ℕ) (ran : Ran) (left : List ℕ) : Type 0 where
   pub legal : IsLegalRun ran
-  pub in_turn : Driven ran.scripts ran.past
+  pub in_turn : Driven ran.terms ran.past
   pub as_due : AsDue spec steps ran.past
   pub none_busy : IsNoneBusy ran.past
   pub stopped : HasStopped spec steps ran.past
@@ -184,7 +193,7 @@ pub record IsClosing (spec : Spec) (steps : List ℕ) (ran : Ran) (left : List �
 
 -- so many sessions from the first on were closed
 pub record SessionsClosed (old new : Ran) (first end : ℕ) : Type 0 where
-  pub scripts : new.scripts ≡ old.scripts
+  pub terms : new.terms ≡ old.terms
   pub hands : (s : ℕ) → hand new.past s ≡ hand old.past s
   pub closed_same : (s : ℕ) → (s < first) ⊎ (end ≤ s) → closed new.past s ≡ closed old.past s
   pub failed : (spec : Spec) → failed_setup spec new.past ≡ failed_setup spec old.past

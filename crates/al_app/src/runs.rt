@@ -4,25 +4,58 @@ ghost use Rattle.std.specs.List.{AllByRecursion};
 ghost use Rattle.al_history.specs.declared.run.Setup.TheVariants as setups;
 ghost use Rattle.al_history.specs.Hand.{hand, closed};
 ghost use Rattle.al_history.specs.Whole.{IsRun, IsLeast};
-ghost use Rattle.al_engine.specs.Ran.{Ran};
+ghost use Rattle.al_engine.specs.Ran.{Ran, IsLegalRun, IsTurned};
 ghost use Rattle.al_app.specs.FirstSessions.{IsSessionStepAt};
-ghost use Rattle.al_app.specs.Runs.{IsRunnable, HasTurned, IsDriven, IsAtRest, HasRunBlock, CancelsIfBusy, IsNoneBusy, SetupRan, SetupSoFar, SetupGoesOn, StepsRan, SessionsCancelled, SessionsClosed, IsEnded};
+ghost use Rattle.al_app.specs.Runs.{journal_weight, terms_for, IsRunnable, HasTurned, IsDriven, IsAtRest, HasRunBlock, CancelsIfBusy, IsNoneBusy, SetupRan, SetupSoFar, SetupGoesOn, StepsRan, SessionsCancelled, SessionsClosed, IsEnded};
 
 use al_engine::{Busy, Engine, Told};
 use al_history::{Block, Part, Run, Scripts, Setup, Spec};
-use al_values::{Cant, NoMemory, count_of};
+use al_values::{Cant, NoMemory, Steps, count_of};
 use std::alloc::Global;
+use std::marker::Brand;
+use std::sync::ledger::{Blank, Ledger};
 
 /// More turns than a journal has places.
 const MOST_TURNS: u64 = 4_294_967_296;
 
+/// The most that the journals of a call may weigh together.
+const MOST_WEIGHT: usize = 8_000_000;
+
+/// The fewest runs among which that is divided.
+const LEAST_SHARES: usize = 4;
+
+/// The most that the journal of each run of a spec may weigh.
+fn journal_weight(spec: &Spec) -> u32
+    ensures { result ≡ journal_weight spec.now }
+{
+    (MOST_WEIGHT / spec.permutations.len().max(LEAST_SHARES)) as u32
+}
+
+/// A turn whose steps go to a counter of their own, which nobody reads.
+fn turn_uncounted<L: Ledger>(
+    alloc: Global,
+    engine: &mut Engine,
+    session: u32,
+    blank: Blank,
+) -> Result<Told, NoMemory>
+    requires name { blank.name ≡ L.name }
+    requires parts { blank.parts ≡ L.parts }
+    requires some { 0 < blank.parts }
+    requires known { session < engine.old.terms.scripts.sessions }
+    ensures turned { IfOk result (IsTurned engine.old engine.new session) }
+    ensures legal { IsLegalRun engine.new }
+{
+    let mut steps = Steps::<L>::new(blank);
+    engine.turn(alloc, session, &mut steps)
+}
+
 /// Goes on with the step in hand of the least session that can go on. It tells whether the step was refused.
 fn take_turn(alloc: Global, engine: &mut Engine, session: u32) -> Result<bool, NoMemory>
-    requires known { session < engine.old.scripts.sessions }
+    requires known { session < engine.old.terms.scripts.sessions }
     requires least { IsLeast engine.old.past session }
     ensures { IfOk result (λ refused. HasTurned engine.old engine.new refused) }
 {
-    match engine.turn(alloc, session)? {
+    match turn_uncounted::<Brand>(alloc, engine, session, Blank::new(1))? {
         Told::Went {
             from: _,
             to: _,
@@ -49,8 +82,8 @@ fn drive(alloc: Global, engine: &mut Engine) -> Result<bool, NoMemory>
 
 /// Gives a block to its session, which has no step in hand, and drives. It tells whether a step was refused.
 fn run_block(alloc: Global, engine: &mut Engine, session: u32, block: u32) -> Result<bool, NoMemory>
-    requires known { session < engine.old.scripts.sessions }
-    requires of_session { option_map (λ b. b.session) (slice_get engine.old.scripts.blocks block) ≡ Some session }
+    requires known { session < engine.old.terms.scripts.sessions }
+    requires of_session { option_map (λ b. b.session) (slice_get engine.old.terms.scripts.blocks block) ≡ Some session }
     requires not_closed { closed engine.old.past session ≡ false }
     requires idle { hand engine.old.past session ≡ None }
     requires rest { IsAtRest engine.old }
@@ -66,7 +99,7 @@ fn run_block(alloc: Global, engine: &mut Engine, session: u32, block: u32) -> Re
 
 /// Cancels the session's step in hand, where it has one, and drives. It tells whether it had one.
 fn cancel_if_busy(alloc: Global, engine: &mut Engine, session: u32) -> Result<bool, NoMemory>
-    requires known { session < engine.old.scripts.sessions }
+    requires known { session < engine.old.terms.scripts.sessions }
     requires rest { IsAtRest engine.old }
     ensures { IfOk result (λ cancelled. CancelsIfBusy engine.old engine.new session cancelled) }
 {
@@ -87,12 +120,12 @@ fn run_setup_block(
     number: u32,
     block: &Block,
 ) -> Result<bool, NoMemory>
-    requires runnable { IsRunnable spec.now engine.old.scripts }
-    requires sessions { engine.old.scripts.sessions ≡ length spec.now.sessions + 1 }
+    requires runnable { IsRunnable spec.now engine.old.terms.scripts }
+    requires sessions { engine.old.terms.scripts.sessions ≡ length spec.now.sessions + 1 }
     requires there { slice_get spec.now.blocks number ≡ Some block.now }
     requires so_far { SetupSoFar spec.now engine.old number }
     ensures ran { IfOk result (λ failed. SetupGoesOn spec.now engine.new number failed) }
-    ensures scripts { OnOk result (engine.new.scripts ≡ engine.old.scripts) }
+    ensures terms { OnOk result (engine.new.terms ≡ engine.old.terms) }
 {
     match block.part {
         Part::Step => Ok(false),
@@ -106,11 +139,11 @@ fn run_setup_block(
 
 /// Gives the setup blocks in the file's order, up to the first that is refused or cancelled.
 fn run_setup(alloc: Global, engine: &mut Engine, spec: &Spec) -> Result<Setup, NoMemory>
-    requires runnable { IsRunnable spec.now engine.old.scripts }
-    requires sessions { engine.old.scripts.sessions ≡ length spec.now.sessions + 1 }
+    requires runnable { IsRunnable spec.now engine.old.terms.scripts }
+    requires sessions { engine.old.terms.scripts.sessions ≡ length spec.now.sessions + 1 }
     requires opened { engine.old.past ≡ [] }
     ensures ran { IfOk result (λ setup. SetupRan spec.now engine.new setup) }
-    ensures scripts { OnOk result (engine.new.scripts ≡ engine.old.scripts) }
+    ensures terms { OnOk result (engine.new.terms ≡ engine.old.terms) }
 {
     for (number, block) in spec.blocks.as_slice().iter().enumerate() {
         let number = count_of(number)?;
@@ -123,12 +156,12 @@ fn run_setup(alloc: Global, engine: &mut Engine, spec: &Spec) -> Result<Setup, N
 
 /// Gives the steps of a permutation in order. A step for a busy session isn't given, and ends the list.
 fn run_steps(alloc: Global, engine: &mut Engine, spec: &Spec, steps: &[u32]) -> Result<(), NoMemory>
-    requires runnable { IsRunnable spec.now engine.old.scripts }
+    requires runnable { IsRunnable spec.now engine.old.terms.scripts }
     requires are_steps { AllByRecursion (IsSessionStepAt (length spec.now.sessions) spec.now.blocks) steps.now }
-    requires sessions { engine.old.scripts.sessions ≡ length spec.now.sessions + 1 }
+    requires sessions { engine.old.terms.scripts.sessions ≡ length spec.now.sessions + 1 }
     requires set_up { SetupRan spec.now engine.old setups.Done }
     ensures ran { OnOk result (StepsRan spec.now steps.now engine.new) }
-    ensures scripts { OnOk result (engine.new.scripts ≡ engine.old.scripts) }
+    ensures terms { OnOk result (engine.new.terms ≡ engine.old.terms) }
 {
     for step in steps {
         let session = spec.blocks.get(*step as usize).unwrap().session;
@@ -142,7 +175,7 @@ fn run_steps(alloc: Global, engine: &mut Engine, spec: &Spec, steps: &[u32]) -> 
 
 /// Cancels the steps in hand of the sessions below this one, in ascending order, driving after each.
 fn cancel_busy(alloc: Global, engine: &mut Engine, end: u32) -> Result<(), NoMemory>
-    requires known { end ≤ engine.old.scripts.sessions }
+    requires known { end ≤ engine.old.terms.scripts.sessions }
     requires rest { IsAtRest engine.old }
     ensures { OnOk result (SessionsCancelled engine.old engine.new end) }
 {
@@ -154,7 +187,7 @@ fn cancel_busy(alloc: Global, engine: &mut Engine, end: u32) -> Result<(), NoMem
 
 /// Closes the sessions from the first on, up to and without the end.
 fn close_sessions(engine: &mut Engine, first: u32, end: u32)
-    requires known { end ≤ engine.old.scripts.sessions }
+    requires known { end ≤ engine.old.terms.scripts.sessions }
     requires in_order { first ≤ end }
     requires still_open { (s : ℕ) → first ≤ s → s < end → closed engine.old.past s ≡ false }
     requires none_busy { IsNoneBusy engine.old.past }
@@ -173,13 +206,13 @@ fn finish_steps(
     spec: &Spec,
     steps: &[u32],
 ) -> Result<(), NoMemory>
-    requires runnable { IsRunnable spec.now engine.old.scripts }
-    requires sessions { engine.old.scripts.sessions ≡ length spec.now.sessions + 1 }
+    requires runnable { IsRunnable spec.now engine.old.terms.scripts }
+    requires sessions { engine.old.terms.scripts.sessions ≡ length spec.now.sessions + 1 }
     requires countable { length spec.now.sessions + 1 < 2 ^ 32 }
     requires are_steps { AllByRecursion (IsSessionStepAt (length spec.now.sessions) spec.now.blocks) steps.now }
     requires set_up { SetupRan spec.now engine.old setups.Done }
     ensures ran { OnOk result (IsEnded spec.now engine.new steps.now setups.Done) }
-    ensures scripts { OnOk result (engine.new.scripts ≡ engine.old.scripts) }
+    ensures terms { OnOk result (engine.new.terms ≡ engine.old.terms) }
 {
     let end = spec.sessions.len() as u32 + 1;
     run_steps(alloc, engine, spec, steps)?;
@@ -197,13 +230,13 @@ fn finish(
     setup: Setup,
     steps: &[u32],
 ) -> Result<(), NoMemory>
-    requires runnable { IsRunnable spec.now engine.old.scripts }
-    requires sessions { engine.old.scripts.sessions ≡ length spec.now.sessions + 1 }
+    requires runnable { IsRunnable spec.now engine.old.terms.scripts }
+    requires sessions { engine.old.terms.scripts.sessions ≡ length spec.now.sessions + 1 }
     requires countable { length spec.now.sessions + 1 < 2 ^ 32 }
     requires are_steps { AllByRecursion (IsSessionStepAt (length spec.now.sessions) spec.now.blocks) steps.now }
     requires set_up { SetupRan spec.now engine.old setup }
     ensures ran { OnOk result (IsEnded spec.now engine.new steps.now setup) }
-    ensures scripts { OnOk result (engine.new.scripts ≡ engine.old.scripts) }
+    ensures terms { OnOk result (engine.new.terms ≡ engine.old.terms) }
 {
     match setup {
         Setup::Failed { .. } => {
@@ -226,9 +259,9 @@ pub fn run_permutation(
     requires sessions { scripts.sessions ≡ length spec.now.sessions + 1 }
     requires countable { length spec.now.sessions + 1 < 2 ^ 32 }
     requires are_steps { AllByRecursion (IsSessionStepAt (length spec.now.sessions) spec.now.blocks) steps.now }
-    ensures { IfOk result (λ run. IsRun spec.now scripts number steps.now run) }
+    ensures { IfOk result (λ run. IsRun spec.now (terms_for spec.now scripts) number steps.now run) }
 {
-    let mut engine = Engine::open(alloc, scripts)?;
+    let mut engine = Engine::open(alloc, scripts, journal_weight(spec))?;
     let setup = run_setup(alloc, &mut engine, spec)?;
     finish(alloc, &mut engine, spec, setup, steps)?;
     Ok(Run {

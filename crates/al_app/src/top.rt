@@ -4,6 +4,7 @@ ghost use Rattle.std.specs.Io.KnownBytes.{IsAtEnd};
 ghost use Rattle.al_history.specs.Whole.{AreRuns};
 ghost use Rattle.al_outside.specs.Faults.{Rose};
 ghost use Rattle.al_app.specs.Answers.{HasRun, failed_first};
+ghost use Rattle.al_app.specs.Runs.{terms_for};
 ghost use Rattle.al_app.specs.Top.{CanRun, StopsFor, IsFaultOf};
 
 use crate::first::read_first;
@@ -35,7 +36,7 @@ pub enum Stop {
 /// The runs of a spec file, which has one permutation.
 fn run_all(alloc: Global, spec: &Spec, scripts: Scripts) -> Result<RunList, NoMemory>
     requires { CanRun spec.now scripts }
-    ensures { IfOk result (λ runs. AreRuns spec.now scripts runs) }
+    ensures { IfOk result (λ runs. AreRuns spec.now (terms_for spec.now scripts) runs) }
 {
     let steps = spec.permutations.get(0).unwrap();
     let run = run_permutation(alloc, spec, scripts, 1, steps.as_slice())?;

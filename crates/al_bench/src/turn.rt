@@ -6,8 +6,10 @@ ghost use Rattle.al_history.specs.declared.statement.ScriptBlock.{ScriptBlock};
 
 use al_engine::{Engine, Told};
 use al_history::{Column, ScriptBlock, Scripts, Statement};
-use al_values::{ListOf, Name, NameList, NoMemory, Row, Value};
+use al_values::{ListOf, Name, NameList, NoMemory, Row, Steps, Value};
 use std::alloc::Global;
+use std::marker::Brand;
+use std::sync::ledger::{Blank, Ledger};
 
 // More turns than a step of one statement takes.
 const MOST_TURNS: u32 = 8;
@@ -33,15 +35,15 @@ pub fn journals(alloc: Global, kind: Kind, turns: u32, times: u32) -> Result<u64
 }
 
 fn entries_of(alloc: Global, kind: Kind, turns: u32) -> Result<u64, NoMemory> {
-    let mut engine = Engine::open(alloc, scripts(alloc, kind)?)?;
+    let mut engine = Engine::open(alloc, scripts(alloc, kind)?, u32::MAX)?;
     run_block(alloc, &mut engine, 0)?;
     go_on(alloc, &mut engine, turns)?;
     Ok(u64::from(engine.history().len()))
 }
 
 fn go_on(alloc: Global, engine: &mut Engine, turns: u32) -> Result<(), NoMemory>
-    requires known { 0 < engine.old.scripts.sessions }
-    requires of_session { option_map (λ b. b.session) (slice_get engine.old.scripts.blocks 1) ≡ Some 0 }
+    requires known { 0 < engine.old.terms.scripts.sessions }
+    requires of_session { option_map (λ b. b.session) (slice_get engine.old.terms.scripts.blocks 1) ≡ Some 0 }
     requires not_closed { closed engine.old.past 0 ≡ false }
 {
     for _ in 0..turns {
@@ -52,11 +54,11 @@ fn go_on(alloc: Global, engine: &mut Engine, turns: u32) -> Result<(), NoMemory>
 
 /// Gives a block to the session, and goes on with it to its end.
 fn run_block(alloc: Global, engine: &mut Engine, block: u32) -> Result<(), NoMemory>
-    requires known { 0 < engine.old.scripts.sessions }
-    requires of_session { option_map (λ b. b.session) (slice_get engine.old.scripts.blocks block) ≡ Some 0 }
+    requires known { 0 < engine.old.terms.scripts.sessions }
+    requires of_session { option_map (λ b. b.session) (slice_get engine.old.terms.scripts.blocks block) ≡ Some 0 }
     requires not_closed { closed engine.old.past 0 ≡ false }
     ensures not_closed { OnOk result (closed engine.new.past 0 ≡ false) }
-    ensures scripts { OnOk result (engine.new.scripts ≡ engine.old.scripts) }
+    ensures terms { OnOk result (engine.new.terms ≡ engine.old.terms) }
 {
     let Ok(()) = engine.give(alloc, 0, block) else {
         return Err(NoMemory);
@@ -69,15 +71,33 @@ fn run_block(alloc: Global, engine: &mut Engine, block: u32) -> Result<(), NoMem
     Ok(())
 }
 
-/// Goes on with a session that can, and tells whether there was one.
+/// Goes on with a session that can, and tells whether there was one. Nothing counts its steps.
 fn take_turn(alloc: Global, engine: &mut Engine) -> Result<bool, NoMemory>
     ensures closed_same { OnOk result (closed engine.new.past 0 ≡ closed engine.old.past 0) }
-    ensures scripts { OnOk result (engine.new.scripts ≡ engine.old.scripts) }
+    ensures terms { OnOk result (engine.new.terms ≡ engine.old.terms) }
 {
     let Some(session) = engine.ready() else {
         return Ok(false);
     };
-    match engine.turn(alloc, session)? {
+    turn_in::<Brand>(alloc, engine, session, Blank::new(1))
+}
+
+/// A turn whose steps are counted in a new ledger. It tells whether the session went on.
+fn turn_in<L: Ledger>(
+    alloc: Global,
+    engine: &mut Engine,
+    session: u32,
+    blank: Blank,
+) -> Result<bool, NoMemory>
+    requires known { session < engine.old.terms.scripts.sessions }
+    requires name { blank.name ≡ L.name }
+    requires parts { blank.parts ≡ L.parts }
+    requires some { 0 < blank.parts }
+    ensures closed_same { OnOk result (closed engine.new.past 0 ≡ closed engine.old.past 0) }
+    ensures terms { OnOk result (engine.new.terms ≡ engine.old.terms) }
+{
+    let mut steps = Steps::<L>::new(blank);
+    match engine.turn(alloc, session, &mut steps)? {
         Told::Went { .. } => Ok(true),
         Told::Waits | Told::Idle => Ok(false),
     }

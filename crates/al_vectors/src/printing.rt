@@ -1,5 +1,7 @@
 use al_app::print;
-use al_history::{Block, Cause, Column, Entry, History, Level, Part, Reply, Run, Setup, Spec, Tag};
+use al_history::{
+    Block, Cause, Column, Entry, History, Level, Part, Reply, Run, RunLimit, Setup, Spec, Tag,
+};
 use al_values::{ListOf, NoMemory, Txt, Value};
 use std::alloc::Global;
 use std::test::Fail;
@@ -203,6 +205,13 @@ fn prints_a_failed_setup(rt: HostRuntime) -> Result<(), Fail> {
         (
             Cause::BlockFailed { refuse: 3 },
             "25P02: transaction block has failed",
+        ),
+        (
+            Cause::Limit {
+                what: RunLimit::Journal,
+                count: 2_000_001,
+            },
+            "54000: limit of journal passed",
         ),
         (Cause::Cancelled { entry: 3 }, "57014: cancelled"),
     ] {

@@ -2,9 +2,9 @@
 ghost use Rattle.std.specs.Prelude.{◌≡◌, ◌++◌, codes, flat_map, OnOk, string_bytes};
 ghost use Rattle.std.specs.List.{join_by};
 ghost use Rattle.al_values.specs.Printed.{printed};
-ghost use Rattle.al_app.specs.Report.{refusal_text, reply_text, rows_text, row_text, row_count_text, tag_text, cause_text, many_values_text};
+ghost use Rattle.al_app.specs.Report.{refusal_text, reply_text, rows_text, row_text, row_count_text, tag_text, cause_text, limit_name, many_values_text};
 
-use al_history::{Cause, Entry, Reply, Tag};
+use al_history::{Cause, Entry, Reply, RunLimit, Tag};
 use al_values::{Name, NoMemory, Row, Value};
 
 fn push_cause(text: &mut String, cause: &Cause) -> Result<(), NoMemory>
@@ -17,9 +17,20 @@ fn push_cause(text: &mut String, cause: &Cause) -> Result<(), NoMemory>
         Cause::TwiceColumn { name } => write!(text, "42701: column \"{name}\" already exists")?,
         Cause::Count { want, got } => push_many_values(text, *want, *got)?,
         Cause::BlockFailed { .. } => write!(text, "25P02: transaction block has failed")?,
+        Cause::Limit { what, .. } => {
+            write!(text, "54000: limit of {} passed", limit_name(*what))?;
+        }
         Cause::Cancelled { .. } => write!(text, "57014: cancelled")?,
     }
     Ok(())
+}
+
+fn limit_name(what: RunLimit) -> &'static str
+    ensures { result.now ≡ limit_name what }
+{
+    match what {
+        RunLimit::Journal => "journal",
+    }
 }
 
 fn push_many_values(text: &mut String, want: u32, got: u32) -> Result<(), NoMemory>

@@ -9,7 +9,7 @@ pub run_block-requires-clause-known : goal.run_block-requires-clause-known
 run_block-requires-clause-known c = block_known _ c.args.engine.now _ _ c.requires.runnable c.requires.there
 
 pub cancel_if_busy-requires-clause-known : goal.cancel_if_busy-requires-clause-known
-cancel_if_busy-requires-clause-known c = rw c.in_ok-failed-in-Setup.ensures.driven.scripts (block_known _ c.args.engine.now _ _ c.requires.runnable c.requires.there)
+cancel_if_busy-requires-clause-known c = rw c.in_ok-failed-in-Setup.ensures.driven.terms (block_known _ c.args.engine.now _ _ c.requires.runnable c.requires.there)
 
 pub returns-in-Step-clause-ran : goal.returns-in-Step-clause-ran
 returns-in-Step-clause-ran c = setup_skips _ c.args.engine.now _ _ c.requires.there c.requires.so_far c.in-Step.is

@@ -4,16 +4,16 @@ use Rattle.al_app.proofs.RunLemmas.{block_known, of_session_at, steps_begin, ste
 use Rattle.al_app.proofs.runs.run_steps.Goals as goal
 
 pub loop-step-init : goal.loop-step-init
-loop-step-init c = record { so_far = steps_begin _ _ _ c.requires.set_up; scripts = search rules }
+loop-step-init c = record { so_far = steps_begin _ _ _ c.requires.set_up; terms = search rules }
 
 pub is_busy-requires : goal.is_busy-requires
-is_busy-requires c = record { known = block_known c.args.spec.now c.loop-step.engine (slice_index_or c.args.steps.now c.loop-step.step-index 0) c.unwrap.result.now (rw c.loop-step.invariant.scripts c.requires.runnable) (search rules) }
+is_busy-requires c = record { known = block_known c.args.spec.now c.loop-step.engine (slice_index_or c.args.steps.now c.loop-step.step-index 0) c.unwrap.result.now (rw c.loop-step.invariant.terms c.requires.runnable) (search rules) }
 
 pub run_block-requires-clause-of_session : goal.run_block-requires-clause-of_session
-run_block-requires-clause-of_session c = of_session_at c.args.spec.now c.loop-step.engine _ c.unwrap.result.now (rw c.loop-step.invariant.scripts c.requires.runnable) (search rules)
+run_block-requires-clause-of_session c = of_session_at c.args.spec.now c.loop-step.engine _ c.unwrap.result.now (rw c.loop-step.invariant.terms c.requires.runnable) (search rules)
 
 pub run_block-requires-clause-known : goal.run_block-requires-clause-known
-run_block-requires-clause-known c = block_known c.args.spec.now c.loop-step.engine (slice_index_or c.args.steps.now c.loop-step.step-index 0) c.unwrap.result.now (rw c.loop-step.invariant.scripts c.requires.runnable) (search rules)
+run_block-requires-clause-known c = block_known c.args.spec.now c.loop-step.engine (slice_index_or c.args.steps.now c.loop-step.step-index 0) c.unwrap.result.now (rw c.loop-step.invariant.terms c.requires.runnable) (search rules)
 
 pub returns-then-is_busy-clause-ran : goal.returns-then-is_busy-clause-ran
 returns-then-is_busy-clause-ran c = steps_stop _ _ _ _ c.loop-step.invariant.so_far (slice_index_or c.args.steps.now c.loop-step.step-index 0) c.unwrap.result.now (slice_get-get_or c.args.steps.now c.loop-step.step-index 0 (omega arith)) (search rules) (search rules)
@@ -24,7 +24,7 @@ loop-step-preserved c =
     let known = block_known c.args.spec.now c.args.engine.now (slice_index_or c.args.steps.now c.loop-step.step-index 0) c.unwrap.result.now c.requires.runnable (search rules) in
     record {
       so_far = steps_go_on _ _ c.loop-step.engine _ c.loop-step.invariant.so_far _ c.unwrap.result.now (slice_get-get_or c.args.steps.now c.loop-step.step-index 0 (omega arith)) (search rules) _ _ c.requires.are_steps (omega (arith, known, c.requires.sessions)) did;
-      scripts = did.driven.scripts ∙ c.loop-step.invariant.scripts;
+      terms = did.driven.terms ∙ c.loop-step.invariant.terms;
     }
 
 pub returns-clause-ran : goal.returns-clause-ran

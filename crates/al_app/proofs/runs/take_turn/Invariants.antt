@@ -1,0 +1,4 @@
+use Rattle.al_app.proofs.runs.take_turn.Given as goal
+
+abbrev pub ghosts-turn_uncounted : goal.ghosts-turn_uncounted
+ghosts-turn_uncounted a = record { name = a.blank.name; parts = a.blank.parts }
