@@ -13,7 +13,7 @@ printf '%10s %10s %10s %8s\n' rows 'ns a row' 'ns a node' growth
 before=
 for rows in 1000 10000 100000; do
   times=$((2000000 / rows))
-  ns=$(per "$(median eval "$rows" "$times")" "$(median eval "$rows" 0)" $((rows * times)))
+  ns=$(per "$(least eval "$rows" "$times")" "$(least eval "$rows" 0)" $((rows * times)))
   printf '%10d %10s %10s %8s\n' "$rows" "$ns" "$(awk -v ns="$ns" -v nodes="$nodes" 'BEGIN { printf "%.1f", ns / nodes }')" \
     "$(growth "$before" "$ns")"
   before=$ns

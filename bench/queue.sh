@@ -19,9 +19,9 @@ declare -A before
 for sessions in 1 2 4 8 16 32 62; do
   times=$((asks / sessions)) line=
   for kind in shared queued; do
-    none=$(median queue "$kind" "$sessions" 0)
-    half=$(median queue "$kind-asks" "$sessions" "$times")
-    whole=$(median queue "$kind" "$sessions" "$times")
+    none=$(least queue "$kind" "$sessions" 0)
+    half=$(least queue "$kind-asks" "$sessions" "$times")
+    whole=$(least queue "$kind" "$sessions" "$times")
     ask=$(per "$half" "$none" $((sessions * times)))
     release=$(per "$whole" "$half" $((sessions * times)))
     line+=$(printf '  %10s %8s  %10s %8s' "$ask" "$(growth "${before[$kind-ask]:-}" "$ask")" \

@@ -8,12 +8,20 @@ if [ ! -x "$program" ]; then
   exit 1
 fi
 
-# The nanoseconds of a run of al_bench on these words, as the median of some. It reads the file `input`, where that is set.
-median() {
+# The nanoseconds of a run of al_bench on these words, as the least of some: what else runs on the machine only adds to a run.
+# It reads the file `input`, where that is set.
+least() {
   local TIMEFORMAT='%3U %3S'
   for _ in $(seq "$runs"); do
     { time "$program" "$@" <"${input:-/dev/null}" >/dev/null || exit 1; } 2>&1
-  done | awk '{ printf "%.0f\n", ($1 + $2) * 1000000000 }' | sort -n | awk '{ a[NR] = $1 } END { print a[int((NR + 1) / 2)] }'
+  done | awk '{ printf "%.0f\n", ($1 + $2) * 1000000000 }' | sort -n | head -n 1
+}
+
+# The instructions of a run of al_bench on these words, which don't depend on what else the machine does; 0 without valgrind.
+instructions() {
+  command -v valgrind >/dev/null || { echo 0; return; }
+  valgrind --tool=callgrind --callgrind-out-file=/dev/null "$program" "$@" 2>&1 >/dev/null |
+    awk '/Collected/ { count = $NF } END { print count + 0 }'
 }
 
 # per MORE LESS COUNT: the nanoseconds for each of so many, as the difference of two runs.
@@ -30,7 +38,7 @@ sizes() {
     "$2" "$most" >"$input"
     times=$(($3 * 1048576 / most)) bytes=$(wc -c <"$input") count=$("$program" "$1" 1 <"$input")
     [ "$count" -gt 0 ] || { echo "$2 of $bytes bytes is refused" >&2; exit 1; }
-    ns=$(per "$(median "$1" "$times")" "$(median "$1" 0)" "$times")
+    ns=$(per "$(least "$1" "$times")" "$(least "$1" 0)" "$times")
     printf '%-8s %10d %8d %10s %8s %8s\n' "$2" "$bytes" "$count" "$(awk -v ns="$ns" 'BEGIN { printf "%.3f", ns / 1000000 }')" \
       "$(awk -v bytes="$bytes" -v ns="$ns" 'BEGIN { printf "%.1f", bytes * 1000 / ns }')" "$(growth "$before" "$ns")"
     before=$ns

@@ -16,7 +16,7 @@ use words::{Task, task_of, words_of};
 
 const USAGE: &str = "\
 usage: al_bench queue shared|shared-asks|queued|queued-asks SESSIONS TIMES
-       al_bench turn insert|select|refused TURNS TIMES
+       al_bench turn insert|select|refused TURNS JOURNALS TIMES
        al_bench spec TIMES <FILE
        al_bench tokens TIMES <FILE
        al_bench eval ROWS TIMES
@@ -57,7 +57,12 @@ fn perform(rt: &HostRuntime, alloc: Global, task: Task) -> Result<u64, Stop> {
             sessions,
             times,
         } => queue::rounds(alloc, round, sessions, times)?,
-        Task::Turn { kind, turns, times } => turn::journals(alloc, kind, turns, times)?,
+        Task::Turn {
+            kind,
+            turns,
+            beside,
+            times,
+        } => turn::journals(alloc, kind, turns, beside, times)?,
         Task::Spec { times } => input::specs(alloc, &input_of(rt, alloc)?, times)?,
         Task::Tokens { times } => input::texts(alloc, input_of(rt, alloc)?, times)?,
         Task::Eval { rows, times } => check::checks(alloc, rows, times)?,

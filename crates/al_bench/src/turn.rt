@@ -25,20 +25,38 @@ pub enum Kind {
     Refused,
 }
 
-/// Makes as many journals of so many steps, and gives the count of their entries.
-pub fn journals(alloc: Global, kind: Kind, turns: u32, times: u32) -> Result<u64, NoMemory> {
+/// Makes so many journals of so many steps side by side, so often, and gives the count of their entries.
+pub fn journals(
+    alloc: Global,
+    kind: Kind,
+    turns: u32,
+    beside: u32,
+    times: u32,
+) -> Result<u64, NoMemory> {
     let mut entries: u64 = 0;
     for _ in 0..times {
-        entries = entries.wrapping_add(entries_of(alloc, kind, turns)?);
+        entries = entries.wrapping_add(side_by_side(alloc, kind, turns, beside)?);
     }
     Ok(entries)
 }
 
-fn entries_of(alloc: Global, kind: Kind, turns: u32) -> Result<u64, NoMemory> {
+/// Makes so many journals, which are kept until the last is made.
+fn side_by_side(alloc: Global, kind: Kind, turns: u32, beside: u32) -> Result<u64, NoMemory> {
+    let mut engines = Vec::with_capacity(alloc, beside as usize)?;
+    let mut entries: u64 = 0;
+    for _ in 0..beside {
+        let engine = engine_of(alloc, kind, turns)?;
+        entries = entries.wrapping_add(u64::from(engine.history().len()));
+        engines.push(engine)?;
+    }
+    Ok(entries)
+}
+
+fn engine_of(alloc: Global, kind: Kind, turns: u32) -> Result<Engine, NoMemory> {
     let mut engine = Engine::open(alloc, scripts(alloc, kind)?, u32::MAX)?;
     run_block(alloc, &mut engine, 0)?;
     go_on(alloc, &mut engine, turns)?;
-    Ok(u64::from(engine.history().len()))
+    Ok(engine)
 }
 
 fn go_on(alloc: Global, engine: &mut Engine, turns: u32) -> Result<(), NoMemory>

@@ -16,10 +16,11 @@ pub enum Task {
         sessions: u32,
         times: u32,
     },
-    /// So many turns of an engine.
+    /// So many steps in each of some journals that are kept side by side.
     Turn {
         kind: Kind,
         turns: u32,
+        beside: u32,
         times: u32,
     },
     /// A spec file from standard input.
@@ -81,22 +82,6 @@ fn task_on_input(what: &str, times: u32) -> Option<Task> {
     }
 }
 
-fn task_of_kind(what: &str, kind: &str, size: u32, times: u32) -> Option<Task> {
-    match what {
-        "queue" => Some(Task::Queue {
-            round: round_of(kind)?,
-            sessions: size,
-            times,
-        }),
-        "turn" => Some(Task::Turn {
-            kind: kind_of(kind)?,
-            turns: size,
-            times,
-        }),
-        _ => None,
-    }
-}
-
 /// The task that the words name; none where they aren't one of the usage.
 pub fn task_of(words: &[Word]) -> Option<Task> {
     match words {
@@ -105,12 +90,17 @@ pub fn task_of(words: &[Word]) -> Option<Task> {
             rows: number_of(rows)?,
             times: number_of(times)?,
         }),
-        [what, kind, size, times] => task_of_kind(
-            what.as_str(),
-            kind.as_str(),
-            number_of(size)?,
-            number_of(times)?,
-        ),
+        [what, kind, sessions, times] if what.as_str() == "queue" => Some(Task::Queue {
+            round: round_of(kind.as_str())?,
+            sessions: number_of(sessions)?,
+            times: number_of(times)?,
+        }),
+        [what, kind, turns, beside, times] if what.as_str() == "turn" => Some(Task::Turn {
+            kind: kind_of(kind.as_str())?,
+            turns: number_of(turns)?,
+            beside: number_of(beside)?,
+            times: number_of(times)?,
+        }),
         _ => None,
     }
 }

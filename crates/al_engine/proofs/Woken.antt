@@ -3,15 +3,14 @@ use Rattle.std.proofs.Common.{◌≡◌, ℕ, zero, suc, ◌+◌, ◌≤◌, Lis
 use Rattle.std.specs.Prelude.{◌==◌, ◌||◌, not, unwrap_or, option_and_then}
 use Rattle.std.proofs.lemmas.Bool.{eq-eqb, eqb-true, ne_eqb}
 use Rattle.std.proofs.lemmas.List.Sums.{sum_by-cons, length-filter, count_by-le-length}
-use Rattle.al_history.specs.declared.entry.Entry.TheVariants.{Lock}
 use Rattle.al_history.specs.Past.{Past}
 use Rattle.al_queue.specs.declared.grant.Grant.{Grant}
 use Rattle.al_queue.specs.Locks.{Locks}
 use Rattle.al_queue.specs.Walk.{released}
 use Rattle.al_queue.specs.Settled.{HandsOn}
 use Rattle.al_engine.specs.declared.sessions.Session.{Session}
-use Rattle.al_engine.specs.LockTie.{locked_by, is_granted}
-use Rattle.al_engine.specs.Sessions.{xact_in, light, light_of, waked, wakened, woken}
+use Rattle.al_engine.specs.LockTie.{locked_by, is_granted, IsNoted}
+use Rattle.al_engine.specs.Sessions.{xact_in, light, light_of, waked, wakened, woken, IsWakened}
 use Rattle.al_engine.proofs.LockLists.{locked_next}
 
 -- ---- one session
@@ -109,11 +108,17 @@ few_granted locks after s hands =
 -- ---- the loop that notes their locks
 
 -- one lock more
-pub locks_on : (sessions now : List Session) (grants : List Grant) (past before after : Past) (i x : ℕ) (g : Grant) → after ≡ Lock x g.table g.mode ∷ before → x ≡ xact_in now g.session → before ≡ locked_by (xact_in sessions) (take i grants) past → now ≡ woken (take i grants) sessions → slice_get grants i ≡ Some g → after ≡ locked_by (xact_in sessions) (take (i + 1) grants) past
-locks_on sessions now grants past before after i x g noted own so_far woke is =
-    let its : x ≡ xact_in sessions g.session = own ∙ (ap (λ (all : List Session). xact_in all g.session) woke ∙ woken_xact (take i grants) sessions g.session) in
-    noted ∙ (rw (its, so_far) refl ∙ sym (locked_next (xact_in sessions) grants past i g is))
+pub locks_on : (sessions now : List Session) (grants : List Grant) (past before after : Past) (i : ℕ) → IsNoted (xact_in now) (slice_get grants i) before after → before ≡ locked_by (xact_in sessions) (take i grants) past → now ≡ woken (take i grants) sessions → after ≡ locked_by (xact_in sessions) (take (i + 1) grants) past
+locks_on sessions now grants past before after i noted so_far woke = by_get (slice_get grants i) refl noted where
+  by_get : (o : Option Grant) → slice_get grants i ≡ o → IsNoted (xact_in now) o before after → after ≡ locked_by (xact_in sessions) (take (i + 1) grants) past
+  by_get None is noted = absurd noted
+  by_get (Some g) is noted =
+      let its : xact_in now g.session ≡ xact_in sessions g.session = ap (λ (all : List Session). xact_in all g.session) woke ∙ woken_xact (take i grants) sessions g.session in
+      noted ∙ (rw (its, so_far) refl ∙ sym (locked_next (xact_in sessions) grants past i g is))
 
 -- one session more that waits no more
-pub wakes_on : (sessions now after : List Session) (grants : List Grant) (i : ℕ) (g : Grant) → after ≡ wakened g.session now → now ≡ woken (take i grants) sessions → slice_get grants i ≡ Some g → after ≡ woken (take (i + 1) grants) sessions
-wakes_on sessions now after grants i g wakes so_far is = wakes ∙ (ap (λ (all : List Session). wakened g.session all) so_far ∙ sym (woken_next grants sessions i g is))
+pub wakes_on : (sessions now after : List Session) (grants : List Grant) (i : ℕ) → IsWakened (slice_get grants i) now after → now ≡ woken (take i grants) sessions → after ≡ woken (take (i + 1) grants) sessions
+wakes_on sessions now after grants i wakes so_far = by_get (slice_get grants i) refl wakes where
+  by_get : (o : Option Grant) → slice_get grants i ≡ o → IsWakened o now after → after ≡ woken (take (i + 1) grants) sessions
+  by_get None is wakes = absurd wakes
+  by_get (Some g) is wakes = wakes ∙ (ap (λ (all : List Session). wakened g.session all) so_far ∙ sym (woken_next grants sessions i g is))

@@ -1,5 +1,5 @@
 -- How the lock table stands to a journal, and the locks that are got when it is walked.
-use Rattle.std.specs.Prelude.{◌≡◌, ℕ, List, [], ◌∷◌, ◌++◌, Bool, true, false, ◌==◌, Some, map, count_by}
+use Rattle.std.specs.Prelude.{◌≡◌, ℕ, List, [], ◌∷◌, ◌++◌, Bool, true, false, ◌==◌, Option, Some, None, map, count_by}
 use Rattle.std.specs.List.{list_any}
 use Rattle.al_queue.specs.declared.grant.Grant.{Grant}
 use Rattle.al_queue.specs.Locks.{Locks}
@@ -45,6 +45,11 @@ Knows past xact = (c : Claim) → is_held (waiting past) c ≡ true → xact_of 
 -- the lock of a request, for its session's transaction
 abbrev pub lock_by : (ℕ → ℕ) → Grant → Entry
 lock_by xact grant = Lock (xact grant.session) grant.table grant.mode
+
+-- the lock of this request is got
+abbrev pub IsNoted : (ℕ → ℕ) → Option Grant → Past → Past → Type 0
+IsNoted xact None old new = ⊥
+IsNoted xact (Some grant) old new = new ≡ lock_by xact grant ∷ old
 
 -- the locks of these requests are got, one after the other
 abbrev pub locked_by : (ℕ → ℕ) → List Grant → Past → Past

@@ -119,6 +119,11 @@ waked sessions s (Some t) = slice_set sessions s (record t { wants = None })
 abbrev pub wakened : ℕ → List Session → List Session
 wakened s sessions = waked sessions s (slice_get sessions s)
 
+-- the session of this request waits no more
+abbrev pub IsWakened : Option Grant → List Session → List Session → Type 0
+IsWakened None old new = ⊥
+IsWakened (Some grant) old new = new ≡ wakened grant.session old
+
 -- the sessions of these requests wait no more
 abbrev pub woken : List Grant → List Session → List Session
 woken [] sessions = sessions

@@ -5,10 +5,11 @@ ghost use Rattle.al_history.specs.Hand.{hand, in_hand, closed};
 ghost use Rattle.al_history.specs.Made.{row_entries};
 ghost use Rattle.al_engine.specs.Kept.{IsKept, parts_of, past_in};
 ghost use Rattle.al_engine.specs.Closing.{HasLeft};
+ghost use Rattle.al_engine.specs.Sessions.{of_step};
 ghost use Rattle.al_engine.specs.Ran.{Ran, IsLegalRun, AreSingle, IsBusyFor, IsTurned, ends_block, Cancels, IsClosed, IsReady};
 
 use crate::machine::{Machine, abort, refuse};
-use crate::sessions::{Session, first_ready, idle_sessions, is_held_up};
+use crate::sessions::{Session, first_ready, given, idle_sessions, is_held_up};
 use crate::told::{Busy, Told};
 use crate::turns::go_on;
 use al_history::{Cause, Entry, History, Scripts, Terms};
@@ -78,18 +79,12 @@ impl Engine {
     {
         let _ = alloc;
         let at = session as usize;
-        let seat = self.machine.sessions[at];
-        if seat.hand.is_some() {
+        let Ok(given) = given(self.machine.sessions[at], block) else {
             return Err(Cant::Why(Busy));
-        }
-        self.machine.journal.reserve(1 + LIGHT_ENTRIES)?;
-        self.machine.journal.note(Entry::Give { session, block });
-        self.machine.sessions[at] = Session {
-            hand: Some(block),
-            looked: false,
-            wants: None,
-            ..seat
         };
+        reserve_step(&mut self.machine.journal)?;
+        self.machine.journal.note(Entry::Give { session, block });
+        self.machine.sessions[at] = given;
         Ok(())
     }
 
@@ -194,6 +189,15 @@ impl Engine {
         } = machine;
         journal
     }
+}
+
+/// Reserves the places of a Give and of the light entries of its step.
+fn reserve_step(journal: &mut History) -> Result<(), NoMemory>
+    ensures entries { journal.new.entries ≡ journal.old.entries }
+    ensures ok { OnOk result (journal.new.room ≡ journal.old.room + 1 + of_step None) }
+    ensures err { OnErr result (journal.new.room ≡ journal.old.room) }
+{
+    journal.reserve(1 + LIGHT_ENTRIES)
 }
 
 /// The open transaction of an idle session is aborted, where it has one.

@@ -9,8 +9,8 @@ ghost use Rattle.al_history.specs.Whole.{driver, IsLeast, IsTurn};
 ghost use Rattle.al_history.proofs.Turns.{Went};
 ghost use Rattle.al_queue.specs.Walk.{walked, released};
 ghost use Rattle.al_queue.specs.Settled.{IsSettled, HandsOn};
-ghost use Rattle.al_engine.specs.LockTie.{locked_by};
-ghost use Rattle.al_engine.specs.Sessions.{state_of, xact_in, wakened, woken};
+ghost use Rattle.al_engine.specs.LockTie.{locked_by, IsNoted};
+ghost use Rattle.al_engine.specs.Sessions.{state_of, xact_in, wakened, woken, IsWakened};
 ghost use Rattle.al_engine.specs.Ran.{IsAborted};
 ghost use Rattle.al_engine.specs.Kept.{parts_of, past_in, IsAmid, IsClear, IsKept, CanBeDone, CanBeRefused, IsRefused, used_by};
 
@@ -72,15 +72,30 @@ fn end_claims(machine: &mut Machine, session: u32)
 {
     let count = machine.locks.release(session);
     for i in 0..count {
-        let Grant {
-            session: other,
-            table,
-            mode,
-        } = machine.locks.granted(i);
-        let xact = xact_in(&machine.sessions, other);
-        machine.journal.note(Entry::Lock { xact, table, mode });
-        wake(&mut machine.sessions, other);
+        note_granted(machine, i);
     }
+}
+
+/// Notes the lock of the request that was granted at this place. Its session waits no more.
+fn note_granted(machine: &mut Machine, i: u32)
+    requires there { i < length machine.old.locks.locks.granted }
+    requires room { 0 < machine.old.journal.room }
+    ensures past { IsNoted (xact_in machine.old.sessions.items) (slice_get machine.old.locks.locks.granted i) (past_in machine.old) (past_in machine.new) }
+    ensures sessions { IsWakened (slice_get machine.old.locks.locks.granted i) machine.old.sessions.items machine.new.sessions.items }
+    ensures locks { machine.new.locks ≡ machine.old.locks }
+    ensures room { machine.new.journal.room + 1 ≡ machine.old.journal.room }
+    ensures tables { machine.new.tables.items ≡ machine.old.tables.items }
+    ensures committed { machine.new.committed.items ≡ machine.old.committed.items }
+    ensures weight { machine.new.weight ≡ machine.old.weight }
+{
+    let Grant {
+        session,
+        table,
+        mode,
+    } = machine.locks.granted(i);
+    let xact = xact_in(&machine.sessions, session);
+    machine.journal.note(Entry::Lock { xact, table, mode });
+    wake(&mut machine.sessions, session);
 }
 
 /// A session's open transaction is committed.

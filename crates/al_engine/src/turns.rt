@@ -8,6 +8,7 @@ ghost use Rattle.al_history.specs.Rules.{starts, commit_tag};
 ghost use Rattle.al_history.specs.Whole.{driver, IsLeast};
 ghost use Rattle.al_history.specs.Waits.{can_go_on};
 ghost use Rattle.al_history.proofs.Turns.{Went};
+ghost use Rattle.al_engine.specs.declared.sessions.Block.TheVariants as blocks;
 ghost use Rattle.al_engine.specs.Sessions.{state_of};
 ghost use Rattle.al_engine.specs.Ran.{ends_block};
 ghost use Rattle.al_engine.specs.Ended.{IsEnded};
@@ -238,15 +239,18 @@ fn end_block(_terms: &Terms, machine: &mut Machine, session: u32, seat: Session,
         session,
         reply: Reply::Tag { tag, count: 0 },
     });
-    end_step(
-        machine,
-        session,
-        Session {
-            xact: None,
-            block: Block::Outside,
-            ..seat
-        },
-    );
+    end_step(machine, session, out_of_block(seat));
+}
+
+/// The session once its transaction block has ended.
+fn out_of_block(seat: Session) -> Session
+    ensures { result ≡ record seat { xact = None; block = blocks.Outside } }
+{
+    Session {
+        xact: None,
+        block: Block::Outside,
+        ..seat
+    }
 }
 
 /// The session's open transaction ends by COMMIT or ROLLBACK, where it has one.

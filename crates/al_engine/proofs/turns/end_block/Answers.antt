@@ -13,7 +13,7 @@ end_step-requires-clause-room c = omega (arith, over_room _ _ _ _ _ _ _ _ _ c.en
 pub returns-clause-kept : goal.returns-clause-kept
 returns-clause-kept c =
     let m = c.end_xact.new.machine in
-    over_kept _ _ _ _ _ _ _ _ _ c.end_xact.ensures.over (parts_of (record { journal = c.note.new.self; sessions = m.sessions; tables = m.tables; locks = m.locks; committed = m.committed; weight = m.weight })) _ blocks.Outside (end_closes c.args.seat c.args.commits) (rw c.end_tag-tag.ensures at c.note.ensures.past) c.note.ensures.room refl refl refl refl refl c.end_step.ensures.past c.end_step.ensures.room c.end_step.ensures.sessions c.end_step.ensures.tables c.end_step.ensures.locks c.end_step.ensures.committed c.end_step.ensures.weight
+    over_kept _ _ _ _ _ _ _ _ _ c.end_xact.ensures.over (parts_of (record { journal = c.note.new.self; sessions = m.sessions; tables = m.tables; locks = m.locks; committed = m.committed; weight = m.weight })) _ blocks.Outside (end_closes c.args.seat c.args.commits) (rw c.end_tag-tag.ensures at c.note.ensures.past) c.note.ensures.room refl refl refl refl refl c.end_step.ensures.past c.end_step.ensures.room (rw c.out_of_block.ensures at c.end_step.ensures.sessions) c.end_step.ensures.tables c.end_step.ensures.locks c.end_step.ensures.committed c.end_step.ensures.weight
 
 pub returns-clause-went : goal.returns-clause-went
 returns-clause-went c = over_went _ _ _ _ _ _ _ _ _ c.end_xact.ensures.over _ (rw (c.note.ensures.past, c.end_tag-tag.ensures) at c.end_step.ensures.past)
