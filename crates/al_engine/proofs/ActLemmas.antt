@@ -32,7 +32,7 @@ use Rattle.al_engine.specs.declared.stored.StoredColumn.{StoredColumn}
 use Rattle.al_engine.specs.declared.stored.StoredRow.{StoredRow}
 use Rattle.al_engine.specs.declared.stored.StoredTable.{StoredTable}
 use Rattle.al_engine.specs.Kept.{Parts, over_by, used_by}
-use Rattle.al_engine.proofs.AskLemmas.{over_uncut}
+use Rattle.al_engine.proofs.AskLemmas.{over_uncut, first_uncut}
 use Rattle.al_engine.specs.Using.{Uses}
 use Rattle.al_engine.specs.Stored.{slot_of, kept_of, all_kept, seen_by, of_columns, with_stored_row, with_stored_column}
 use Rattle.al_engine.proofs.StatementLemmas.{at_work, acted_goes, can_be_done, StaysBut, amid_after, clear_after}
@@ -50,10 +50,6 @@ alter_uncut column v cause is = by_test (has_column v.columns column.name) is wh
   by_test : (b : Bool) → Some cause ≡ refusal (cond b (Err (causes.TwiceColumn column.name)) (Ok (record { columns = v.columns ++ column ∷ []; row_map = λ (row : List Value). row ++ column.default ∷ []; tests = [] }))) → used_by cause ≡ 0
   by_test true is = let one : cause ≡ causes.TwiceColumn column.name = cc in rw one refl
   by_test false is = absurd cc
-
-first_uncut : (first second : Option Cause) (cause : Cause) → ((c : Cause) → Some c ≡ first → used_by c ≡ 0) → ((c : Cause) → Some c ≡ second → used_by c ≡ 0) → Some cause ≡ first_of first second → used_by cause ≡ 0
-first_uncut None second cause one two is = two cause is
-first_uncut (Some c) second cause one two is = one cause is
 
 -- the first of two causes that were worked out
 pub first_both : (told first second a b : Option Cause) → told ≡ first_of a b → a ≡ first → b ≡ second → told ≡ first_of first second

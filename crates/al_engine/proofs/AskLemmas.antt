@@ -21,7 +21,7 @@ use Rattle.al_history.specs.Locks.{Claim, claim, waiting, grantable, is_settled,
 use Rattle.al_history.specs.Made.{made_by}
 use Rattle.al_history.specs.Waits.{wanted_by, is_blocked, can_go_on}
 use Rattle.al_history.specs.Weight.{weight}
-use Rattle.al_history.specs.Cause.{cause_of}
+use Rattle.al_history.specs.Cause.{cause_of, first_of}
 use Rattle.al_history.specs.Legal.{Legal, MayCome}
 use Rattle.al_history.specs.Whole.{driver, IsLeast}
 use Rattle.al_history.proofs.Comes.{lacking_in, lacking_is, comes_lock, comes_wait, goes}
@@ -90,6 +90,11 @@ over_uncut limit so_far next cause is = by_test (nat_le (so_far + next) limit) i
   by_test : (b : Bool) → Some cause ≡ cond b None (Some (causes.Limit limits.Journal (so_far + next))) → used_by cause ≡ 0
   by_test true is = absurd cc
   by_test false is = let one : cause ≡ causes.Limit limits.Journal (so_far + next) = cc in rw one refl
+
+-- nor is the first of two causes, where neither is
+pub first_uncut : (first second : Option Cause) (cause : Cause) → ((c : Cause) → Some c ≡ first → used_by c ≡ 0) → ((c : Cause) → Some c ≡ second → used_by c ≡ 0) → Some cause ≡ first_of first second → used_by cause ≡ 0
+first_uncut None second cause one two is = two cause is
+first_uncut (Some c) second cause one two is = one cause is
 
 waiting_none : (past : Past) (c : Claim) → asks c.session (waiting past) ≡ false → is_waiting past c ≡ false
 waiting_none past c none = by_test (is_waiting past c) refl where

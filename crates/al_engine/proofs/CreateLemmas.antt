@@ -42,7 +42,9 @@ use Rattle.al_engine.specs.Stored.{all_kept}
 use Rattle.al_engine.specs.Using.{create_weight}
 use Rattle.al_engine.proofs.Amid.{amid_begins}
 use Rattle.al_engine.proofs.SessionLemmas.{light_set, length_set, mirrors_set, marked_set, past_end, none_past, xact_known}
-use Rattle.al_engine.proofs.StatementLemmas.{at_work, Works, works, works_first, look_is, latest_is, asks_none, cause_so, lacking_so, limit_so, unblocked_by, can_be_refused, act_may, look_may, looks, stage_looks, goes_after, acted_goes, can_be_done, StaysBut, stays, amid_after, clear_after}
+use Rattle.al_history.proofs.Unblocked.{goes_unblocked}
+use Rattle.al_engine.proofs.AskLemmas.{over_uncut, first_uncut}
+use Rattle.al_engine.proofs.StatementLemmas.{at_work, Works, works, works_first, look_is, latest_is, asks_none, cause_so, lacking_so, limit_so, can_be_refused, act_may, look_may, looks, stage_looks, goes_after, acted_goes, can_be_done, StaysBut, stays, amid_after, clear_after}
 use Rattle.al_engine.proofs.StoredLemmas.{taker_is, among_open}
 use Rattle.al_engine.proofs.UseLemmas.{HasActed, HasFailed}
 use Rattle.al_engine.proofs.Wanted.{others_wait_on, wants_all}
@@ -63,16 +65,6 @@ create_uncut name columns None db cause is = by_test (is_some (named db name)) i
   by_test true is = let one : cause ≡ causes.TwiceTable name = cc in rw one refl
   by_test false is = twice_uncut [] columns cause is
 
-over_uncut : (limit so_far next : ℕ) (cause : Cause) → Some cause ≡ over_by limit so_far next → used_by cause ≡ 0
-over_uncut limit so_far next cause is = by_test (nat_le (so_far + next) limit) is where
-  by_test : (b : Bool) → Some cause ≡ cond b None (Some (causes.Limit limits.Journal (so_far + next))) → used_by cause ≡ 0
-  by_test true is = absurd cc
-  by_test false is = let one : cause ≡ causes.Limit limits.Journal (so_far + next) = cc in rw one refl
-
-first_uncut : (found limit : Option Cause) (cause : Cause) → Some cause ≡ first_of found limit → (Some cause ≡ found → used_by cause ≡ 0) → (Some cause ≡ limit → used_by cause ≡ 0) → used_by cause ≡ 0
-first_uncut None limit cause is one two = two is
-first_uncut (Some found) limit cause is one two = one is
-
 none_second : (found limit : Option Cause) → first_of found limit ≡ None → limit ≡ None
 none_second None limit none = none
 none_second (Some found) limit none = absurd cc
@@ -89,9 +81,9 @@ refusal_in terms p looked x name columns = first_of (create_cause name columns (
 
 refusal_uncut : (terms : Terms) (p : Parts) (looked : Bool) (x : ℕ) (name : List ℕ) (columns : List (List ℕ)) (cause : Cause) → Some cause ≡ refusal_in terms p looked x name columns → used_by cause ≡ 0
 refusal_uncut terms p looked x name columns cause is =
-    first_uncut (create_cause name columns (taker_in p x name) (seen_in p x)) (over_by terms.weight (p.weight + cond looked 0 1) (create_weight columns (taker_in p x name))) cause is
-    (λ found. create_uncut name columns (taker_in p x name) (seen_in p x) cause found)
-    (λ above. over_uncut terms.weight (p.weight + cond looked 0 1) (create_weight columns (taker_in p x name)) cause above)
+    first_uncut (create_cause name columns (taker_in p x name) (seen_in p x)) (over_by terms.weight (p.weight + cond looked 0 1) (create_weight columns (taker_in p x name))) cause
+    (λ c found. create_uncut name columns (taker_in p x name) (seen_in p x) c found)
+    (λ c above. over_uncut terms.weight (p.weight + cond looked 0 1) (create_weight columns (taker_in p x name)) c above) is
 
 -- where it isn't refused, its next entry fits
 refusal_fits : (terms : Terms) (p : Parts) (looked : Bool) (x : ℕ) (name : List ℕ) (columns : List (List ℕ)) → refusal_in terms p looked x name columns ≡ None → p.weight + cond looked 0 1 + create_weight columns (taker_in p x name) ≤ terms.weight
@@ -150,7 +142,7 @@ module _ (terms : Terms) (p : Parts) (s : ℕ) (t : Session) (x : ℕ) (name : L
   before_so before =
       let w = works_first terms p s t x (statements.CreateTable name columns) kept seat in_xact statement_is before in
       let none : lacking terms (past_of p.journal) x ≡ None = lacking_is terms (past_of p.journal) s (at_work t x None) w.legal w.doing_is w.settled x w.by ∙ lacking_so terms (past_of p.journal) s t x (statements.CreateTable name columns) None w in
-      ap (λ (lacks : Option Claim). limit_cause terms (past_of p.journal) x (weight_before (past_of p.journal) true lacks)) none ∙ (limit_so terms (past_of p.journal) s t x (statements.CreateTable name columns) None w (unblocked_by (past_of p.journal) s goes_on) (Some 1) ∙ rw kept.sound.weighed refl)
+      ap (λ (lacks : Option Claim). limit_cause terms (past_of p.journal) x (weight_before (past_of p.journal) true lacks)) none ∙ (limit_so terms (past_of p.journal) s t x (statements.CreateTable name columns) None w (goes_unblocked (past_of p.journal) s goes_on) (Some 1) ∙ rw kept.sound.weighed refl)
 
   looked_just : t.looked ≡ false → over_by terms.weight p.weight 1 ≡ None → HasLooked terms p s t x name columns (Look x ∷ past_of p.journal)
   looked_just before fits =
@@ -215,7 +207,7 @@ module _ (terms : Terms) (p : Parts) (s : ℕ) (t : Session) (x : ℕ) (name : L
 
 module _ (terms : Terms) (p : Parts) (s : ℕ) (t : Session) (x : ℕ) (name : List ℕ) (columns : List (List ℕ)) (past : Past) (kept : IsKept terms p) (h : HasLooked terms p s t x name columns past) where
   limit_found : (taker : Option ℕ) (now looked : Database) → limit_cause terms past x (weight_after (statements.CreateTable name columns) [] taker now looked) ≡ over_by terms.weight (p.weight + cond t.looked 0 1) (create_weight columns taker)
-  limit_found taker now looked = ap (λ (next : Option ℕ). limit_cause terms past x next) (weight_next name columns taker now looked) ∙ (limit_so terms past s (record t { wants = h.want }) x (statements.CreateTable name columns) (Some h.look) h.works (unblocked_by past s h.goes) (Some (create_weight columns taker)) ∙ rw h.weighs_so refl)
+  limit_found taker now looked = ap (λ (next : Option ℕ). limit_cause terms past x next) (weight_next name columns taker now looked) ∙ (limit_so terms past s (record t { wants = h.want }) x (statements.CreateTable name columns) (Some h.look) h.works (goes_unblocked past s h.goes) (Some (create_weight columns taker)) ∙ rw h.weighs_so refl)
 
   cause_found : cause_at terms past x (statements.CreateTable name columns) [] (Some h.look) ≡ refusal_in terms p t.looked x name columns
   cause_found = by_parts (name_taker past x (statements.CreateTable name columns)) (latest terms past x) h.taken_so h.latest_so where

@@ -172,14 +172,6 @@ module _ (terms : Terms) (past : Past) (s : ℕ) (t : Session) (x : ℕ) (statem
     by_hand None is busy = absurd cc
     by_hand (Some block) is busy = goes terms (e ∷ past) s (moved past e (at_work t x look)) (comes, w.legal) (own_moves past s e by ∙ ap (moved past e) w.doing_is) settled block (hand_same ∙ busy) free
 
--- who can go on isn't blocked
-pub unblocked_by : (past : Past) (s : ℕ) → can_go_on past s ≡ true → is_blocked past s ≡ false
-unblocked_by past s goes_on = by_test (is_some (hand past s)) (is_blocked past s) goes_on where
-  by_test : (a b : Bool) → a && not b ≡ true → b ≡ false
-  by_test true true goes_on = absurd cc
-  by_test true false goes_on = refl
-  by_test false b goes_on = absurd cc
-
 -- what fits is no cause, and what doesn't is one
 pub fits_by : (terms : Terms) (past : Past) (next : ℕ) (cause : Option Cause) → cause ≡ over_by terms.weight (weight past) next → over terms past next ≡ cause
 fits_by terms past next cause is = sym is

@@ -30,7 +30,8 @@ use Rattle.al_engine.specs.declared.stored.StoredTable.{StoredTable}
 use Rattle.al_engine.specs.Kept.{Parts, IsAmid, IsClear, IsKept, CanBeDone, CanBeRefused, Lacks, over_by, used_by}
 use Rattle.al_engine.specs.Using.{mode_of, Uses, IsLocked}
 use Rattle.al_engine.specs.Stored.{kept_of, all_kept, seen_by}
-use Rattle.al_engine.proofs.StatementLemmas.{limit_so, unblocked_by, goes_after, at_work, Works, works_first, unlooked, latest_is, cause_so, lacking_so, can_be_refused, act_may, look_may, looks, stage_looks, StaysBut, amid_after}
+use Rattle.al_history.proofs.Unblocked.{goes_unblocked}
+use Rattle.al_engine.proofs.StatementLemmas.{limit_so, goes_after, at_work, Works, works_first, unlooked, latest_is, cause_so, lacking_so, can_be_refused, act_may, look_may, looks, stage_looks, StaysBut, amid_after}
 use Rattle.al_engine.proofs.StoredLemmas.{named_there}
 use Rattle.al_engine.proofs.Ties.{same_holds}
 
@@ -158,7 +159,7 @@ module _ (terms : Terms) (p : Parts) (s : ℕ) (t : Session) (x : ℕ) (statemen
         limit_only (name_cause statement (latest terms (past_of p.journal) x)) _ named_clear
         ∙ (ap (λ (b : Bool). limit_cause terms (past_of p.journal) x (weight_before (past_of p.journal) b (lacking terms (past_of p.journal) x))) u.placed
         ∙ (ap (λ (c : Option Claim). limit_cause terms (past_of p.journal) x (weight_before (past_of p.journal) true c)) is
-        ∙ limit_so terms (past_of p.journal) s t x statement None first_works (unblocked_by (past_of p.journal) s u.goes) (weight_before (past_of p.journal) true o)))
+        ∙ limit_so terms (past_of p.journal) s t x statement None first_works (goes_unblocked (past_of p.journal) s u.goes) (weight_before (past_of p.journal) true o)))
 
     -- its lock is lacking
     pub lacks_lock : holds p.locks.locks s table.number mode ≡ false → Lacks terms p s t x (record { session = s; table = table.number; mode = mode })
@@ -193,7 +194,7 @@ module _ (terms : Terms) (p : Parts) (s : ℕ) (t : Session) (x : ℕ) (statemen
         looked_stage = stage_looks terms (past_of p.journal) s t x statement first_works may_look
 
         looked_free : is_blocked (Look x ∷ past_of p.journal) s ≡ false
-        looked_free = unblocked_by (Look x ∷ past_of p.journal) s (goes_after terms (past_of p.journal) s t x statement None first_works (Look x) first_works.by refl refl first_works.settled may_look)
+        looked_free = goes_unblocked (Look x ∷ past_of p.journal) s (goes_after terms (past_of p.journal) s t x statement None first_works (Look x) first_works.by refl refl first_works.settled may_look)
 
         -- what it does is judged by its Look, and then by what it weighs
         pub judged_after : (found : Option Cause) (next : ℕ) → look_cause statement [] (name_taker (Look x ∷ past_of p.journal) x statement) (latest terms (Look x ∷ past_of p.journal) x) (latest terms (past_of p.journal) x) ≡ found
