@@ -2,16 +2,20 @@
 """Runs spec files on a PostgreSQL server too, and compares what it answers with the program's reports.
 
 Usage: bench/server.py SPEC..
+       bench/server.py --made FROM TO    (files made at random, from these numbers on and up to those)
 
 The server is the one that libpq's variables name (PGHOST, PGUSER, ..), with a role that may set deadlock_timeout, since
 deadlocks last here until steps are cancelled. Tables are made in a schema of their own, which is dropped at the end. A step
 waits where pg_blocking_pids names somebody. Of a refusal only the SQLSTATE is compared; steps that complete at the same
-place may come in any order. Prints each file that differs, with the first place, and counts them.
+place may come in any order. Of each file the first difference is looked at. Prints those that README doesn't name, and ends
+with 1 where there are any, and counts each kind.
 
 It needs psycopg2 (Debian: python3-psycopg2), and crates/al_live/out/al_live, which bin/alterlive builds.
 """
 
+import collections
 import os
+import random
 import re
 import select
 import subprocess
@@ -86,6 +90,8 @@ class Run:
 
     def __init__(self, control, spec):
         self.control, self.spec, self.parts = control, spec, []
+        # The places of the steps of sessions for a lock of which another waited when they were asked.
+        self.awaited = set()
         control.execute(f"DROP SCHEMA IF EXISTS {SCHEMA} CASCADE")
         control.execute(f"CREATE SCHEMA {SCHEMA}")
         self.sessions = [Session() for _ in range(spec.sessions + 1)]
@@ -97,6 +103,15 @@ class Run:
 
     def is_blocked(self, session):
         self.control.execute("SELECT cardinality(pg_blocking_pids(%s)) > 0", (session.connection.info.backend_pid,))
+        return self.control.fetchone()[0]
+
+    def is_awaited(self, session):
+        """Whether another session waits for a table that this one has locked."""
+        self.control.execute(
+            "SELECT EXISTS (SELECT FROM pg_locks own JOIN pg_locks other USING (locktype, database, relation)"
+            " WHERE own.pid = %s AND own.granted AND other.pid <> own.pid AND NOT other.granted)",
+            (session.connection.info.backend_pid,),
+        )
         return self.control.fetchone()[0]
 
     def drive(self):
@@ -140,6 +155,8 @@ class Run:
             if session.step is not None:
                 self.parts.append([f"step {step}: not given"])
                 return
+            if self.is_awaited(session):
+                self.awaited.add(len(self.parts))
             session.ask(step, text)
             ended = self.drive()
             own = [reply for name, reply in ended if name == step and session.step is None]
@@ -179,25 +196,93 @@ def in_any_order(parts):
     return ordered + sorted(together)
 
 
-def compare(control, path):
-    with open(path, "rb") as file:
-        written = file.read()
-    spec = Spec(written.decode())
-    answered = in_any_order(Run(control, spec).parts)
-    report = subprocess.run([PROGRAM, "run"], input=written, capture_output=True, check=False).stdout.decode()
-    reported = parts_of(report, spec)
+def made(number):
+    """A spec file that the number determines: sessions of a few steps each, in a random order."""
+    pick = random.Random(number)
+    widths = {table: pick.randint(1, 3) for table in "tuk"[: pick.randint(1, 3)]}
+    lines = [f"setup {{ CREATE TABLE {table} ({columns(width)}) }}" for table, width in widths.items()]
+    for table in pick.choices(list(widths), k=pick.randint(0, 3)):
+        lines.append(f"setup {{ INSERT INTO {table} VALUES ({values(pick, widths[table])}) }}")
+    left = []
+    for letter in "abcdef"[: pick.randint(2, 6)]:
+        lines.append(f"session {letter}")
+        texts = ["BEGIN" if pick.random() < 0.8 else statement(pick, widths)]
+        texts += [statement(pick, widths) for _ in range(pick.randint(2, 6))]
+        lines += [f"step {letter}{i} {{ {text} }}" for i, text in enumerate(texts)]
+        left.append([f"{letter}{i}" for i in range(len(texts))])
+    steps = []
+    while len(steps) < 26 and any(left):
+        steps.append(pick.choice([names for names in left if names]).pop(0))
+    return "\n".join(lines + ["permutation " + " ".join(steps)]) + "\n"
+
+
+def statement(pick, widths):
+    table = pick.choice(list(widths) + ["n", "m"]) if pick.random() < 0.25 else pick.choice(list(widths))
+    kinds = {
+        "BEGIN": 6,
+        "COMMIT": 9,
+        "ROLLBACK": 7,
+        f"SELECT * FROM {table}": 25,
+        f"INSERT INTO {table} VALUES ({values(pick, pick.randint(1, 4))})": 25,
+        f"ALTER TABLE {table} ADD COLUMN {pick.choice('bcdef')} integer{pick.choice(['', ' DEFAULT 5'])}": 18,
+        f"CREATE TABLE {pick.choice('nm')} ({columns(pick.randint(1, 3))})": 10,
+    }
+    return pick.choices(list(kinds), list(kinds.values()))[0]
+
+
+def columns(width):
+    return ", ".join(f"{name} integer" for name in "abc"[:width])
+
+
+def values(pick, count):
+    return ", ".join(str(pick.randint(0, 9)) for _ in range(count))
+
+
+def difference(server, program, awaited):
+    """Which of the differences that README names this is, or `another`. The parts were or weren't awaited."""
+    codes = (server[-1], program[-1])
+    if awaited and program[0].endswith("<waiting ...>"):
+        return "front of the queue"
+    if codes[0] == "ERROR: 40P01":
+        return "deadlock"
+    if codes == ("ERROR: 23505", "ERROR: 42P07"):
+        return "name after a wait"
+    if codes == ("ERROR: 42701", "ERROR: 42P07"):
+        return "column before name"
+    if server[0] == program[0] and server[0].endswith("<... completed>") and all("row" in code for code in codes):
+        return "steps at the same time"
+    return "another"
+
+
+def compare(control, name, text):
+    """Tells the first difference, or `the same`."""
+    spec = Spec(text)
+    run = Run(control, spec)
+    done = subprocess.run([PROGRAM, "run"], input=text.encode(), capture_output=True, check=False)
+    answered, reported = in_any_order(run.parts), parts_of(done.stdout.decode(), spec)
     if answered == reported:
-        return True
-    print(f"differs: {path}")
-    for server, program in zip(answered + [None], reported + [None]):
-        if server != program:
-            print(f"  server:  {server}\n  program: {program}", flush=True)
-            break
-    return False
+        return "the same"
+    pairs = enumerate(zip(answered + [["nothing more"]], reported + [["nothing more"]]))
+    place, (server, program) = next((place, pair) for place, pair in pairs if pair[0] != pair[1])
+    kind = difference(server, program, place in run.awaited)
+    if kind == "another":
+        print(f"differs: {name}\n  server:  {server}\n  program: {program}", flush=True)
+    return kind
 
 
-def main(paths):
-    if not paths:
+def texts_of(words):
+    """The texts that the words name, each with a name."""
+    if words[0] == "--made":
+        for number in range(int(words[1]), int(words[2])):
+            yield f"--made {number} {number + 1}", made(number)
+    else:
+        for path in words:
+            with open(path, encoding="utf-8", newline="") as file:
+                yield path, file.read()
+
+
+def main(words):
+    if not words or words[0] == "--made" and len(words) != 3:
         sys.exit(__doc__)
     if not os.access(PROGRAM, os.X_OK):
         sys.exit(f"no {os.path.normpath(PROGRAM)}: run bin/alterlive once")
@@ -205,9 +290,11 @@ def main(paths):
     connection.autocommit = True
     control = connection.cursor()
     print(f"PostgreSQL {connection.info.server_version // 10000}")
-    same = [compare(control, path) for path in paths]
+    found = collections.Counter(compare(control, name, text) for name, text in texts_of(words))
     control.execute(f"DROP SCHEMA IF EXISTS {SCHEMA} CASCADE")
-    print(f"{sum(same)} the same, {len(same) - sum(same)} differ")
+    for kind, count in found.most_common():
+        print(f"{count:6} {kind}")
+    sys.exit(found["another"] > 0)
 
 
 if __name__ == "__main__":
