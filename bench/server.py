@@ -1,4 +1,4 @@
-#!/usr/bin/env python3
+#!/usr/bin/python3
 """Runs spec files on a PostgreSQL server too, and compares what it answers with the program's reports.
 
 Usage: bench/server.py SPEC..
@@ -241,10 +241,10 @@ def values(pick, count):
 def difference(server, program, awaited):
     """Which of the differences that README names this is, or `another`. The parts were or weren't awaited."""
     codes = (server[-1], program[-1])
-    if awaited and program[0].endswith("<waiting ...>"):
-        return "front of the queue"
     if codes[0] == "ERROR: 40P01":
         return "deadlock"
+    if awaited and program[0].endswith("<waiting ...>"):
+        return "front of the queue"
     if codes == ("ERROR: 23505", "ERROR: 42P07"):
         return "name after a wait"
     if codes == ("ERROR: 42701", "ERROR: 42P07"):
