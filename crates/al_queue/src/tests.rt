@@ -98,7 +98,7 @@ fn queue_cases(rt: HostRuntime) -> Result<(), Fail> {
             2,
             &[grant(3, 1, Mode::AccessShare), grant(1, 1, Mode::RowShare)],
         ),
-        // One in the middle of a queue is taken back, and those behind it are granted.
+        // The first of a queue is taken back, and those behind it are granted.
         Call::Ask(grant(0, 1, Mode::Exclusive), Asked::Queued { place: 0 }),
         Call::Ask(grant(2, 1, Mode::RowExclusive), Asked::Queued { place: 1 }),
         Call::Withdraw(0, &[grant(2, 1, Mode::RowExclusive)]),
@@ -132,5 +132,29 @@ fn queue_cases(rt: HostRuntime) -> Result<(), Fail> {
         check(&rt, &mut locks, call)?;
     }
     assert!(rt; !locks.waits(3));
+    Ok(())
+}
+
+// One in the middle of a queue is taken back: the one ahead waits on, and the one behind is granted.
+#[test]
+fn withdrawn_from_the_middle(rt: HostRuntime) -> Result<(), Fail> {
+    let mut locks = LockTable::new(rt.alloc(), 4)?;
+    let calls = [
+        Call::Ask(grant(0, 1, Mode::RowExclusive), Asked::Granted),
+        Call::Ask(grant(1, 1, Mode::Share), Asked::Queued { place: 0 }),
+        Call::Ask(
+            grant(2, 1, Mode::AccessExclusive),
+            Asked::Queued { place: 1 },
+        ),
+        Call::Ask(grant(3, 1, Mode::AccessShare), Asked::Queued { place: 2 }),
+        Call::Withdraw(2, &[grant(3, 1, Mode::AccessShare)]),
+        // Taken back again, it changes nothing.
+        Call::Withdraw(2, &[]),
+        Call::Release(0, &[grant(1, 1, Mode::Share)]),
+    ];
+    for call in &calls {
+        check(&rt, &mut locks, call)?;
+    }
+    assert!(rt; !locks.waits(1));
     Ok(())
 }
