@@ -60,9 +60,9 @@ class Session:
     def __init__(self):
         options = f"-c deadlock_timeout=1h -c search_path={SCHEMA}"
         self.connection = psycopg2.connect("", options=options, async_=1)
+        own = [self.connection.fileno()]
         while (state := self.connection.poll()) != extensions.POLL_OK:
-            waits = [[self.connection.fileno()]]
-            select.select(*(waits + [[], []] if state == extensions.POLL_READ else [[]] + waits + [[]]))
+            select.select(own if state == extensions.POLL_READ else [], own if state == extensions.POLL_WRITE else [], [])
         self.step = None
         self.cursor = None
 
