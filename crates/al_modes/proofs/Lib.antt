@@ -1,1 +1,2 @@
+pub mod RowTable
 pub mod Table
