@@ -6,7 +6,7 @@ use Rattle.std.proofs.lemmas.Bool.Decides.{eqb_tells}
 use Rattle.std.specs.List.{AllByRecursion}
 use Rattle.al_history.specs.declared.entry.Entry.{Entry}
 use Rattle.al_history.specs.declared.entry.Entry.TheVariants.{Give, Cancel, Close}
-use Rattle.al_history.specs.declared.spec.Spec.{Spec}
+use Rattle.al_spec.specs.declared.spec.Spec.{Spec}
 use Rattle.al_history.specs.Past.{Past}
 use Rattle.al_history.specs.Hand.{hand, closed}
 use Rattle.al_history.specs.Whole.{session_for, setup_blocks, failed_setup, gives, ended, sessions_from, first_such, is_busy, is_unclosed, next_block, give_next, cancel_due, setup_cancel_due, or_next, unless_failed, closing_order, close_due, due}

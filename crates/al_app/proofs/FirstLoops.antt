@@ -3,14 +3,14 @@ use Rattle.std.proofs.Common.{◌≡◌, ℕ, zero, suc, ◌+◌, ◌-◌, ◌<�
 use Rattle.std.specs.Prelude.{nat_le}
 use Rattle.std.proofs.lemmas.Option.{some_pair_parts}
 use Rattle.std.proofs.Math.ListN.{drop_of_length-le}
-use Rattle.al_history.specs.declared.spec.Block.{Block}
+use Rattle.al_spec.specs.declared.spec.Block.{Block}
 use Rattle.al_app.specs.declared.first.outside.Token.{Token}
 use Rattle.al_app.specs.declared.first.outside.Token.TheVariants as tokens
 use Rattle.std.specs.Str.{is_utf8, IsUtf8}
 use Rattle.std.proofs.lemmas.Str.{IsUtf8-from_is_utf8, is_utf8-from_IsUtf8}
 use Rattle.al_values.specs.declared.cant.Cant.{Cant}
 use Rattle.al_values.specs.declared.cant.Cant.TheVariants as cants
-use Rattle.al_history.specs.declared.spec.SpecFault.{SpecFault}
+use Rattle.al_spec.specs.declared.spec.SpecFault.{SpecFault}
 use Rattle.al_app.specs.declared.first.inside.Lexeme.{Lexeme}
 use Rattle.al_app.specs.FirstSteps.{Fails}
 use Rattle.al_app.specs.First.{is_name, is_reserved, Step, setup_block}

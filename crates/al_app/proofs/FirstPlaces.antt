@@ -9,7 +9,7 @@ use Rattle.std.proofs.lemmas.Bool.Decides.{nat_tests}
 use Rattle.std.proofs.lemmas.List.{length-append, length-map}
 use Rattle.std.proofs.lemmas.List.Folds.{prefix_len-append}
 use Rattle.std.proofs.lemmas.List.Sums.{prefix_len-le-length}
-use Rattle.al_history.specs.declared.spec.Block.{Block}
+use Rattle.al_spec.specs.declared.spec.Block.{Block}
 use Rattle.al_app.specs.First.{setup_block, step_block, is_step}
 use Rattle.al_app.specs.FirstReading.{HasPlaces}
 use Rattle.std.specs.Global.{Global}

@@ -14,9 +14,9 @@ use Rattle.al_history.specs.declared.entry.Want.TheVariants as wants
 use Rattle.al_history.specs.declared.run.Run.{Run}
 use Rattle.al_history.specs.declared.run.Setup.{Setup}
 use Rattle.al_history.specs.declared.run.Setup.TheVariants as setups
-use Rattle.al_history.specs.declared.spec.Block.{Block}
-use Rattle.al_history.specs.declared.spec.Part.TheVariants as parts
-use Rattle.al_history.specs.declared.spec.Spec.{Spec}
+use Rattle.al_spec.specs.declared.spec.Block.{Block}
+use Rattle.al_spec.specs.declared.spec.Part.TheVariants as parts
+use Rattle.al_spec.specs.declared.spec.Spec.{Spec}
 use Rattle.al_app.specs.Report.{report, run_text, blocked_text, name_text, is_plain, step_text, cause_text, row_count_text, waits}
 
 -- one session, two setup blocks, two steps and the permutation of both

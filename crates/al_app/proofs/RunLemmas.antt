@@ -6,10 +6,10 @@ use Rattle.std.proofs.lemmas.Bool.{ne_eqb}
 use Rattle.std.proofs.lemmas.Bool.Decides.{eqb_tells}
 use Rattle.std.proofs.lemmas.List.{take_all}
 use Rattle.al_history.specs.declared.entry.Entry.TheVariants.{Give}
-use Rattle.al_history.specs.declared.spec.Part.{Part}
-use Rattle.al_history.specs.declared.spec.Part.TheVariants as parts
-use Rattle.al_history.specs.declared.spec.Block.{Block}
-use Rattle.al_history.specs.declared.spec.Spec.{Spec}
+use Rattle.al_spec.specs.declared.spec.Part.{Part}
+use Rattle.al_spec.specs.declared.spec.Part.TheVariants as parts
+use Rattle.al_spec.specs.declared.spec.Block.{Block}
+use Rattle.al_spec.specs.declared.spec.Spec.{Spec}
 use Rattle.al_history.specs.declared.statement.ScriptBlock.{ScriptBlock}
 use Rattle.al_history.specs.Past.{Past}
 use Rattle.al_history.specs.Hand.{hand, closed}

@@ -1,6 +1,6 @@
 -- Worked terms of runs, by computation.
 use Rattle.std.proofs.Common.{◌≡◌, ◌≢◌, ℕ, List, [], ◌∷◌, refl, arith}
-use Rattle.al_history.specs.declared.spec.Spec.{Spec}
+use Rattle.al_spec.specs.declared.spec.Spec.{Spec}
 use Rattle.al_app.specs.Runs.{journal_weight}
 
 abbrev spec_of : List (List ℕ) → Spec

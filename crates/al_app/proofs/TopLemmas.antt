@@ -5,8 +5,8 @@ use Rattle.al_values.specs.declared.cant.Cant.TheVariants as cants
 use Rattle.al_values.specs.Gives.{GivesUnlessNoMemory}
 use Rattle.al_history.specs.declared.run.Run.{Run}
 use Rattle.al_history.specs.declared.run.Setup.TheVariants as setups
-use Rattle.al_history.specs.declared.spec.Spec.{Spec}
-use Rattle.al_history.specs.declared.spec.SpecFault.{SpecFault}
+use Rattle.al_spec.specs.declared.spec.Spec.{Spec}
+use Rattle.al_spec.specs.declared.spec.SpecFault.{SpecFault}
 use Rattle.al_history.specs.declared.statement.Scripts.{Scripts}
 use Rattle.al_app.specs.First.{IsFirst}
 use Rattle.al_app.specs.Answers.{failed_first, IsNotFirst, HasRun}

@@ -5,9 +5,9 @@ use Rattle.std.specs.Str.{bytes_eq}
 use Rattle.al_history.specs.declared.run.Run.{Run}
 use Rattle.al_history.specs.declared.run.Setup.{Setup}
 use Rattle.al_history.specs.declared.run.Setup.TheVariants as setups
-use Rattle.al_history.specs.declared.spec.Spec.{Spec}
-use Rattle.al_history.specs.declared.spec.SpecFault.{SpecFault}
-use Rattle.al_history.specs.declared.spec.SpecFault.TheVariants as faults
+use Rattle.al_spec.specs.declared.spec.Spec.{Spec}
+use Rattle.al_spec.specs.declared.spec.SpecFault.{SpecFault}
+use Rattle.al_spec.specs.declared.spec.SpecFault.TheVariants as faults
 use Rattle.al_history.specs.declared.statement.Scripts.{Scripts}
 use Rattle.al_history.specs.Whole.{AreRuns}
 use Rattle.al_outside.specs.Holding.{Held, Grows, GrowsByFront}

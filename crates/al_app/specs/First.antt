@@ -11,10 +11,10 @@ use Rattle.std.specs.List.{flat_map, list_any, AllByRecursion}
 use Rattle.std.specs.Str.{bytes_eq, is_utf8}
 use Rattle.al_values.specs.declared.scalar.Value.{Value}
 use Rattle.al_values.specs.declared.scalar.Value.TheVariants as values
-use Rattle.al_history.specs.declared.spec.Part.{Part}
-use Rattle.al_history.specs.declared.spec.Part.TheVariants as parts
-use Rattle.al_history.specs.declared.spec.Block.{Block}
-use Rattle.al_history.specs.declared.spec.Spec.{Spec}
+use Rattle.al_spec.specs.declared.spec.Part.{Part}
+use Rattle.al_spec.specs.declared.spec.Part.TheVariants as parts
+use Rattle.al_spec.specs.declared.spec.Block.{Block}
+use Rattle.al_spec.specs.declared.spec.Spec.{Spec}
 use Rattle.al_history.specs.declared.statement.Statement.{Statement}
 use Rattle.al_history.specs.declared.statement.Statement.TheVariants as statements
 use Rattle.al_history.specs.declared.statement.ScriptBlock.{ScriptBlock}

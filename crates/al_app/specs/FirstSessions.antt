@@ -1,9 +1,9 @@
 -- What holds of each spec file of the first form.
 use Rattle.std.specs.Prelude.{◌≡◌, ℕ, ◌+◌, ◌<◌, ◌≤◌, List, [], ◌∷◌, ◌++◌, length, Some, slice_get}
 use Rattle.std.specs.List.{AllByRecursion}
-use Rattle.al_history.specs.declared.spec.Part.TheVariants as parts
-use Rattle.al_history.specs.declared.spec.Block.{Block}
-use Rattle.al_history.specs.declared.spec.Spec.{Spec}
+use Rattle.al_spec.specs.declared.spec.Part.TheVariants as parts
+use Rattle.al_spec.specs.declared.spec.Block.{Block}
+use Rattle.al_spec.specs.declared.spec.Spec.{Spec}
 use Rattle.al_history.specs.declared.statement.Statement.{Statement}
 use Rattle.al_history.specs.declared.statement.ScriptBlock.{ScriptBlock}
 use Rattle.al_history.specs.declared.statement.Scripts.{Scripts}

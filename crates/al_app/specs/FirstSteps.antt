@@ -3,7 +3,7 @@ use Rattle.std.specs.Prelude.{◌≡◌, ℕ, List, [], ◌∷◌, ◌++◌, Opt
 use Rattle.std.specs.Option.{option_and_then, option_to_list}
 use Rattle.al_values.specs.declared.cant.Cant.{Cant}
 use Rattle.al_values.specs.declared.cant.Cant.TheVariants as cants
-use Rattle.al_history.specs.declared.spec.SpecFault.{SpecFault}
+use Rattle.al_spec.specs.declared.spec.SpecFault.{SpecFault}
 
 infixl 10 ◌>>=◌
 abbrev pub ◌>>=◌ : {A B : Type 0} → Option A → (A → Option B) → Option B

@@ -4,7 +4,7 @@ use Rattle.std.specs.List.{AllByRecursion}
 use Rattle.al_history.specs.declared.entry.Entry.TheVariants.{Give, Cancel}
 use Rattle.al_history.specs.declared.run.Setup.{Setup}
 use Rattle.al_history.specs.declared.run.Setup.TheVariants as setups
-use Rattle.al_history.specs.declared.spec.Spec.{Spec}
+use Rattle.al_spec.specs.declared.spec.Spec.{Spec}
 use Rattle.al_history.specs.declared.statement.Scripts.{Scripts}
 use Rattle.al_history.specs.declared.statement.Terms.{Terms}
 use Rattle.al_history.specs.Past.{Past}

@@ -4,8 +4,8 @@ use Rattle.std.specs.List.{AllByRecursion}
 use Rattle.std.specs.Io.KnownBytes.{IsAtEnd}
 use Rattle.al_values.specs.declared.cant.Cant.{Cant}
 use Rattle.al_values.specs.declared.cant.Cant.TheVariants as cants
-use Rattle.al_history.specs.declared.spec.Spec.{Spec}
-use Rattle.al_history.specs.declared.spec.SpecFault.{SpecFault}
+use Rattle.al_spec.specs.declared.spec.Spec.{Spec}
+use Rattle.al_spec.specs.declared.spec.SpecFault.{SpecFault}
 use Rattle.al_history.specs.declared.statement.Scripts.{Scripts}
 use Rattle.al_outside.specs.Reading.{IsReadPast}
 use Rattle.al_app.specs.declared.top.Stop.{Stop}

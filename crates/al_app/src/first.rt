@@ -8,7 +8,7 @@ mod statement;
 
 ghost use Rattle.std.specs.Prelude.{IfOk, Ok};
 ghost use Rattle.al_values.specs.Gives.{GivesUnlessNoMemory};
-ghost use Rattle.al_history.specs.declared.spec.Spec.{Spec};
+ghost use Rattle.al_spec.specs.declared.spec.Spec.{Spec};
 ghost use Rattle.al_history.specs.declared.statement.Scripts.{Scripts};
 ghost use Rattle.al_app.specs.First.{IsFirst};
 ghost use Rattle.al_app.specs.FirstSessions.{IsFirstShape};

@@ -1,7 +1,7 @@
 -- What a session that is being closed has left behind.
 use Rattle.std.specs.Prelude.{◌≡◌, ℕ, ◌+◌, true, Some, None, slice_get}
 use Rattle.al_history.specs.declared.entry.Entry.TheVariants.{Close}
-use Rattle.al_history.specs.declared.spec.Spec.{Spec}
+use Rattle.al_spec.specs.declared.spec.Spec.{Spec}
 use Rattle.al_history.specs.declared.statement.Terms.{Terms}
 use Rattle.al_history.specs.Past.{past_of}
 use Rattle.al_history.specs.Hand.{hand, xact_of, closed, block_state}

@@ -1,24 +1,24 @@
 -- What contracts see of the engine: the blocks of its run and the journal so far; and what its calls do to these.
-use Rattle.std.specs.Prelude.{◌≡◌, ℕ, ◌<◌, ◌≤◌, ◌+◌, ◌⊎◌, List, [], ◌++◌, Bool, cond, length, Option, Some, None, IsSome, slice_get, ◌==◌, true, false, ◌∷◌}
+use Rattle.std.specs.Prelude.{◌≡◌, ℕ, ◌<◌, ◌≤◌, ◌+◌, ◌-◌, ◌^◌, ◌⊎◌, ◌&&◌, List, [], ◌++◌, Bool, cond, length, Option, Some, None, IsSome, is_some, ◌==◌, true, false, ◌∷◌}
 use Rattle.std.specs.List.{AllByRecursion}
 use Rattle.al_values.specs.declared.cant.Cant.{Cant}
 use Rattle.al_values.specs.declared.cant.Cant.TheVariants as cants
 use Rattle.al_history.specs.declared.entry.Cause.TheVariants as causes
 use Rattle.al_history.specs.declared.entry.Entry.TheVariants.{Refuse, Abort, Cancel, End, Close}
-use Rattle.al_history.specs.declared.spec.Spec.{Spec}
+use Rattle.al_spec.specs.declared.spec.Spec.{Spec}
 use Rattle.al_history.specs.declared.statement.Statement.{Statement}
 use Rattle.al_history.specs.declared.statement.Statement.TheVariants as statements
 use Rattle.al_history.specs.declared.statement.ScriptBlock.{ScriptBlock}
 use Rattle.al_history.specs.declared.statement.Scripts.{Scripts}
 use Rattle.al_history.specs.declared.statement.Terms.{Terms}
 use Rattle.al_history.specs.Past.{Past}
-use Rattle.al_history.specs.Hand.{hand, xact_of, closed}
+use Rattle.al_history.specs.Hand.{hand, refused as told_refused, xact_of, closed}
 use Rattle.al_history.specs.Locks.{is_grant}
 use Rattle.al_history.specs.Waits.{is_blocked}
 use Rattle.al_history.specs.Made.{Extends, row_entries}
 use Rattle.al_history.specs.declared.entry.Entry.{Entry}
 use Rattle.al_history.specs.Legal.{Legal}
-use Rattle.al_history.specs.Whole.{driver, failed_setup, or_else, of_setup, IsIdle, IsLeast, Driven}
+use Rattle.al_history.specs.Whole.{driver, failed_setup, or_else, of_setup, Task, closes, next_move, left_by, left, IsIdle, IsLeast, Driven}
 use Rattle.al_engine.specs.declared.told.Busy.{Busy}
 use Rattle.al_engine.specs.declared.told.Told.{Told}
 use Rattle.al_engine.specs.declared.told.Told.TheVariants as tells
@@ -31,14 +31,16 @@ pub record Ran : Type 0 where
 abbrev pub IsLegalRun : Ran → Type 0
 IsLegalRun ran = Legal ran.terms ran.past
 
--- a block is of one of the sessions, and has one statement
-pub record IsSingle (sessions : ℕ) (block : ScriptBlock) : Type 0 where
-  pub known : block.session < sessions
-  pub has_one : IsSome (slice_get block.script 0)
-  pub has_no_more : slice_get block.script 1 ≡ None
+-- each block is of one of the sessions
+abbrev pub IsOfSession : ℕ → ScriptBlock → Type 0
+IsOfSession sessions block = block.session < sessions
 
-abbrev pub AreSingle : Scripts → Type 0
-AreSingle scripts = AllByRecursion (IsSingle scripts.sessions) scripts.blocks
+abbrev pub AreOfSessions : Scripts → Type 0
+AreOfSessions scripts = AllByRecursion (IsOfSession scripts.sessions) scripts.blocks
+
+-- How many entries the journal may still get: it has fewer than 2^32. Driving ends since each turn that goes on makes this smaller.
+abbrev pub places_left : Past → ℕ
+places_left past = 2 ^ 32 - length past
 
 -- a step isn't given exactly where the session has one in hand; memory is wanting only where it has none
 abbrev pub IsBusyFor : Ran → ℕ → Cant Busy → Type 0
@@ -48,6 +50,11 @@ IsBusyFor ran session cants.NoMemory = hand ran.past session ≡ None
 -- the setup block that has failed, after the step in hand was or wasn't refused
 abbrev pub failed_after : Spec → Option ℕ → Option ℕ → Bool → Option ℕ
 failed_after spec failed block refused = cond refused (or_else failed (of_setup spec block)) failed
+
+-- what the driver has left to do, after the step in hand of this block was or wasn't refused: the closes alone where it was of the
+-- setup part
+abbrev pub left_after : Spec → Option ℕ → Bool → List Task → List Task
+left_after spec block refused tasks = cond (refused && is_some (of_setup spec block)) (closes spec) tasks
 
 -- What a call does that goes on with a session's step, by itself or by cancelling it: the entries that it makes are of the
 -- session, but for locks of requests that waited; and it tells whether the step was refused. Where the session's step has come
@@ -60,6 +67,7 @@ pub record GoesOn (old new : Ran) (session : ℕ) (refused : Bool) : Type 0 wher
   pub others : (s : ℕ) → (session == s) ≡ false → hand new.past s ≡ hand old.past s
   pub closed_same : (s : ℕ) → closed new.past s ≡ closed old.past s
   pub failed : (spec : Spec) → failed_setup spec new.past ≡ failed_after spec (failed_setup spec old.past) (hand old.past session) refused
+  pub told : told_refused new.past session ≡ refused
 
 -- A turn made the entries at these places, one of a row at most. A step that was refused has come to its end. What the driver did is as it was; where the session is the least that can go on, each
 -- entry came in its turn.
@@ -69,7 +77,8 @@ pub record WentOn (old new : Ran) (session from to : ℕ) (refused : Bool) : Typ
   pub refused_ends : refused ≡ true → hand new.past session ≡ None
   pub from_is : from ≡ length old.past
   pub to_is : to ≡ length new.past
-  pub some : from < to
+  pub fewer_left : places_left new.past < places_left old.past
+  pub left_is : (spec : Spec) (steps : List ℕ) → left spec steps new.past ≡ left_after spec (hand old.past session) refused (left spec steps old.past)
   pub one_row : row_entries new.past ≤ row_entries old.past + 1
   pub driven : driver new.past ≡ driver old.past
   pub in_turn : IsLeast old.past session → Driven old.terms old.past → Driven new.terms new.past
@@ -115,6 +124,7 @@ pub record IsCancelled (old new : Ran) (session : ℕ) : Type 0 where
   pub is : new.past ≡ End session ∷ aborted
   pub ended : hand new.past session ≡ None
   pub driven : driver new.past ≡ driver old.past ++ Cancel session ∷ []
+  pub left_is : (spec : Spec) (steps : List ℕ) → left spec steps new.past ≡ left_after spec (hand old.past session) true (left_by (next_move spec old.past (left spec steps old.past)))
   pub in_turn : IsIdle old.past → Driven old.terms old.past → Driven new.terms new.past
 
 -- an idle session stays as it is
@@ -133,6 +143,7 @@ pub record IsClosed (old new : Ran) (session : ℕ) : Type 0 where
   pub closed_now : (s : ℕ) → closed new.past s ≡ cond (session == s) true (closed old.past s)
   pub failed : (spec : Spec) → failed_setup spec new.past ≡ failed_setup spec old.past
   pub driven : driver new.past ≡ driver old.past ++ Close session ∷ []
+  pub left_is : (spec : Spec) (steps : List ℕ) → left spec steps new.past ≡ left_by (next_move spec old.past (left spec steps old.past))
   pub in_turn : Driven old.terms old.past → Driven new.terms new.past
 
 -- whether a statement ends a block

@@ -10,7 +10,7 @@ use Rattle.al_history.specs.declared.entry.Rewritten.{Rewritten}
 use Rattle.al_history.specs.declared.entry.Entry.{Entry}
 use Rattle.al_history.specs.declared.entry.Entry.TheVariants.{Start, Wait, Lock, Look, Make, Add, Read, Alter, Done, Refuse, Commit, Abort, End}
 use Rattle.al_history.specs.declared.entry.Want.{Want}
-use Rattle.al_history.specs.declared.spec.Spec.{Spec}
+use Rattle.al_spec.specs.declared.spec.Spec.{Spec}
 use Rattle.al_history.specs.declared.statement.Column.{Column}
 use Rattle.al_history.specs.declared.statement.Terms.{Terms}
 use Rattle.al_history.specs.Past.{Past}

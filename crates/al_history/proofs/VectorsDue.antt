@@ -2,8 +2,8 @@
 use Rattle.std.specs.Prelude.{◌≡◌, [], ◌∷◌, Some, None, codes, refl}
 use Rattle.al_history.specs.declared.entry.Cause.TheVariants as causes
 use Rattle.al_history.specs.declared.entry.Entry.TheVariants.{Give, Refuse, Cancel, End, Close}
-use Rattle.al_history.specs.declared.spec.Part.TheVariants as parts
-use Rattle.al_history.specs.declared.spec.Spec.{Spec}
+use Rattle.al_spec.specs.declared.spec.Part.TheVariants as parts
+use Rattle.al_spec.specs.declared.spec.Spec.{Spec}
 use Rattle.al_history.specs.Past.{Past}
 use Rattle.al_history.specs.Whole.{due, AsDue}
 

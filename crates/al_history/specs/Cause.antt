@@ -5,14 +5,17 @@ use Rattle.al_values.specs.declared.scalar.Value.{Value}
 use Rattle.al_history.specs.declared.entry.RunLimit.TheVariants as limits
 use Rattle.al_history.specs.declared.entry.Cause.{Cause}
 use Rattle.al_history.specs.declared.entry.Cause.TheVariants as causes
-use Rattle.al_history.specs.declared.entry.Entry.TheVariants.{Cancel}
+use Rattle.al_history.specs.declared.entry.Entry.TheVariants.{Make, Cancel}
 use Rattle.al_history.specs.declared.statement.Column.{Column}
+use Rattle.al_history.specs.declared.statement.SqlFault.{SqlFault}
+use Rattle.al_history.specs.declared.statement.SqlFault.TheVariants as faults
 use Rattle.al_history.specs.declared.statement.Statement.{Statement}
 use Rattle.al_history.specs.declared.statement.Statement.TheVariants as statements
 use Rattle.al_history.specs.declared.statement.Terms.{Terms}
 use Rattle.al_history.specs.Past.{Past}
+use Rattle.al_history.specs.Limits.{most_tables, most_columns}
 use Rattle.al_history.specs.Database.{Table, Database, same_name, named}
-use Rattle.al_history.specs.Hand.{in_hand, xact_of, session_of, look_of, acts_of, BlockState, FailedBlock, block_state}
+use Rattle.al_history.specs.Hand.{hand, fault_of, in_hand, xact_of, session_of, look_of, acts_of, BlockState, FailedBlock, block_state}
 use Rattle.al_history.specs.Change.{Alteration, alteration, filled}
 use Rattle.al_history.specs.Query.{column_names, answer}
 use Rattle.al_history.specs.View.{latest}
@@ -43,16 +46,17 @@ name_cause statement db = if_missing db (used_name statement)
 abbrev pub is_among : List (List ℕ) → List ℕ → Bool
 is_among names name = list_any (λ (n : List ℕ). same_name n name) names
 
--- the first name that stood before, in written order
-abbrev pub twice_column : List (List ℕ) → List (List ℕ) → Option Cause
-twice_column before [] = None
-twice_column before (name ∷ names) = cond (is_among before name) (Some (causes.TwiceColumn name)) (twice_column (before ++ name ∷ []) names)
+-- the columns in written order: the first whose name stood before, or that is one too many
+abbrev pub columns_cause : List (List ℕ) → List (List ℕ) → Option Cause
+columns_cause before [] = None
+columns_cause before (name ∷ names) =
+    cond (is_among before name) (Some (causes.TwiceColumn name)) (cond (nat_lt (length before) most_columns) (columns_cause (before ++ name ∷ []) names) (Some (causes.Limit limits.Columns (length before + 1))))
 
--- the new table's name is there already, which comes first, or a column's name stands twice. Where an open transaction of
+-- the new table's name is there already, which comes first, or its columns have a cause. Where an open transaction of
 -- another is in the way of the name, it isn't known yet whether the name is there.
 abbrev pub create_cause : List ℕ → List (List ℕ) → Option ℕ → Database → Option Cause
-create_cause name columns None db = cond (is_some (named db name)) (Some (causes.TwiceTable name)) (twice_column [] columns)
-create_cause name columns (Some taker) db = twice_column [] columns
+create_cause name columns None db = cond (is_some (named db name)) (Some (causes.TwiceTable name)) (columns_cause [] columns)
+create_cause name columns (Some taker) db = columns_cause [] columns
 
 -- an INSERT has more values than its table has columns
 abbrev pub count_cause : ℕ → Option Table → Option Cause
@@ -79,6 +83,19 @@ look_cause (statements.CreateTable name columns) [] taker now looked = create_ca
 look_cause (statements.Insert name values) [] taker now looked = count_cause (length values) (named looked name)
 look_cause (statements.Select name) [] taker now looked = None
 look_cause (statements.AddColumn name column) [] taker now looked = alter_cause column (named looked name)
+
+-- ---- the limits of a run
+
+-- how many tables have been made so far
+abbrev pub tables_made : Past → ℕ
+tables_made [] = 0
+tables_made (Make x table name shape ∷ past) = tables_made past + 1
+tables_made (e ∷ past) = tables_made past
+
+-- a table would be made that is one too many
+abbrev pub tables_cause : Statement → List ℕ → Option ℕ → ℕ → Option Cause
+tables_cause (statements.CreateTable name columns) [] None made = cond (nat_lt made most_tables) None (Some (causes.Limit limits.Tables (made + 1)))
+tables_cause statement acts taker made = None
 
 -- ---- the weight of a run's journal is limited
 
@@ -126,7 +143,7 @@ abbrev pub cause_at : Terms → Past → ℕ → Statement → List ℕ → Opti
 cause_at terms past x statement acts None =
     first_of (name_cause statement (latest terms past x)) (limit_cause terms past x (weight_before past (has_place statement) (lacking terms past x)))
 cause_at terms past x statement acts (Some look) =
-    first_of (look_cause statement acts (name_taker past x statement) (latest terms past x) (latest terms look x)) (limit_cause terms past x (weight_after statement acts (name_taker past x statement) (latest terms past x) (latest terms look x)))
+    first_of (look_cause statement acts (name_taker past x statement) (latest terms past x) (latest terms look x)) (first_of (tables_cause statement acts (name_taker past x statement) (tables_made past)) (limit_cause terms past x (weight_after statement acts (name_taker past x statement) (latest terms past x) (latest terms look x))))
 
 -- what is said of the statement in hand, whatever else is true, right after its step was cancelled
 abbrev pub cancel_cause : Past → ℕ → Option Cause
@@ -140,12 +157,22 @@ block_cause (FailedBlock refuse) statements.Rollback = None
 block_cause (FailedBlock refuse) statement = Some (causes.BlockFailed refuse)
 block_cause state statement = None
 
+-- a text that is no script is refused as a whole
+abbrev pub text_cause : Option SqlFault → Option Cause
+text_cause None = None
+text_cause (Some (faults.Syntax at)) = Some (causes.Syntax at)
+text_cause (Some (faults.NotInProfile at)) = Some (causes.NotInProfile at)
+
 -- the first cause that is true of the statement in hand: that of the block first, then those of a statement with an open
 -- transaction
-abbrev pub judged_cause : Terms → Past → ℕ → Option Cause
-judged_cause terms past s =
+abbrev pub statement_cause : Terms → Past → ℕ → Option Cause
+statement_cause terms past s =
     option_and_then (λ statement. first_of (block_cause (block_state past s) statement) (option_and_then (λ x. cause_at terms past x statement (acts_of past s) (look_of past s)) (xact_of past s))) (in_hand terms past s)
 
--- the cause for which the statement in hand has to be refused
+-- that of the text comes before: then no statement is in hand
+abbrev pub judged_cause : Terms → Past → ℕ → Option Cause
+judged_cause terms past s = first_of (text_cause (fault_of terms (hand past s))) (statement_cause terms past s)
+
+-- the cause for which the step in hand has to be refused
 abbrev pub cause_of : Terms → Past → ℕ → Option Cause
 cause_of terms past s = first_of (cancel_cause past s) (judged_cause terms past s)

@@ -1,13 +1,15 @@
 -- What CREATE TABLE, INSERT and ALTER TABLE do to a database (CREATE TABLE, INSERT, ALTER TABLE in Part VI).
-use Rattle.std.specs.Prelude.{◌≡◌, ℕ, List, [], ◌∷◌, ◌++◌, ◌==◌, not, cond, ◌||◌, ◌&&◌, map, length, drop, Option, Some, Result, Ok, Err, is_some, Contains}
+use Rattle.std.specs.Prelude.{◌≡◌, ℕ, List, [], ◌∷◌, ◌++◌, ◌+◌, ◌==◌, nat_lt, not, cond, ◌||◌, ◌&&◌, map, length, drop, Option, Some, Result, Ok, Err, is_some, Contains}
 use Rattle.al_values.specs.declared.scalar.Value.{Value}
 use Rattle.al_values.specs.declared.scalar.Value.TheVariants as values
 use Rattle.al_history.specs.declared.entry.Cause.{Cause}
 use Rattle.al_history.specs.declared.entry.Cause.TheVariants as causes
+use Rattle.al_history.specs.declared.entry.RunLimit.TheVariants as limits
 use Rattle.al_history.specs.declared.statement.Column.{Column}
 use Rattle.al_history.specs.declared.statement.Statement.{Statement}
 use Rattle.al_history.specs.declared.statement.Statement.TheVariants as statements
 use Rattle.al_history.specs.Constraint.{Constraint}
+use Rattle.al_history.specs.Limits.{most_columns}
 use Rattle.al_history.specs.Database.{VersionedRow, Holds, Table, Database, named, has_table, has_row, has_column, with_table}
 
 -- CREATE TABLE: the columns of these names, without defaults
@@ -36,10 +38,10 @@ pub record Alteration : Type 0 where
   pub row_map : List Value → List Value
   pub tests : List Constraint
 
--- ADD COLUMN is refused where the column is there already. Else it puts the column at the end, each row has its default
+-- ADD COLUMN is refused where the column is there already, and else where the table has as many as it may have. Else it puts the column at the end, each row has its default
 -- there, and nothing is tested.
 abbrev pub alteration : Column → Table → Result Alteration Cause
-alteration column t = cond (has_column t.columns column.name) (Err (causes.TwiceColumn column.name)) (Ok (record { columns = t.columns ++ column ∷ []; row_map = λ row. row ++ column.default ∷ []; tests = [] }))
+alteration column t = cond (has_column t.columns column.name) (Err (causes.TwiceColumn column.name)) (cond (nat_lt (length t.columns) most_columns) (Ok (record { columns = t.columns ++ column ∷ []; row_map = λ row. row ++ column.default ∷ []; tests = [] })) (Err (causes.Limit limits.Columns (length t.columns + 1))))
 
 -- the table after the command, or as it was where the command is refused. Rows keep their numbers and versions.
 abbrev pub after_alteration : Result Alteration Cause → Table → Table

@@ -1,11 +1,12 @@
 -- What a session is doing: its step and its statement in hand, its transaction, its place, and what it has done (3.4).
-use Rattle.std.specs.Prelude.{ℕ, List, [], ◌∷◌, ◌++◌, ◌+◌, ◌==◌, Bool, true, false, cond, length, Option, Some, None, slice_get, option_and_then}
+use Rattle.std.specs.Prelude.{ℕ, List, [], ◌∷◌, ◌++◌, ◌+◌, ◌==◌, Bool, true, false, cond, length, Option, Some, None, slice_get, option_and_then, Result, Ok, Err}
 use Rattle.al_history.specs.declared.entry.Entry.TheVariants.{Give, Start, Look, Make, Add, Read, Alter, Done, Refuse, Commit, Abort, End, Close}
 use Rattle.al_history.specs.declared.entry.Reply.{Reply}
 use Rattle.al_history.specs.declared.entry.Reply.TheVariants as replies
 use Rattle.al_history.specs.declared.entry.Tag.TheVariants as tags
 use Rattle.al_history.specs.declared.statement.Statement.{Statement}
 use Rattle.al_history.specs.declared.statement.ScriptBlock.{ScriptBlock}
+use Rattle.al_history.specs.declared.statement.SqlFault.{SqlFault}
 use Rattle.al_history.specs.declared.statement.Terms.{Terms}
 use Rattle.al_history.specs.Past.{Past}
 use Rattle.al_history.specs.Fate.{is_that}
@@ -31,10 +32,24 @@ refused (Give r block ∷ past) s = cond (r == s) false (refused past s)
 refused (Refuse r cause ∷ past) s = cond (r == s) true (refused past s)
 refused (e ∷ past) s = refused past s
 
+-- the statement of a number in a script; a text that is no script has none
+abbrev pub statement_in : Result (List Statement) SqlFault → ℕ → Option Statement
+statement_in (Ok script) number = slice_get script number
+statement_in (Err fault) number = None
+
 -- the statement of a number in a block
 abbrev pub statement_of : Terms → Option ℕ → ℕ → Option Statement
 statement_of terms None number = None
-statement_of terms (Some block) number = option_and_then (λ (b : ScriptBlock). slice_get b.script number) (slice_get terms.scripts.blocks block)
+statement_of terms (Some block) number = option_and_then (λ (b : ScriptBlock). statement_in b.script number) (slice_get terms.scripts.blocks block)
+
+-- why a block's text is no script, where it is none
+abbrev pub fault_in : Result (List Statement) SqlFault → Option SqlFault
+fault_in (Ok script) = None
+fault_in (Err fault) = Some fault
+
+abbrev pub fault_of : Terms → Option ℕ → Option SqlFault
+fault_of terms None = None
+fault_of terms (Some block) = option_and_then (λ (b : ScriptBlock). fault_in b.script) (slice_get terms.scripts.blocks block)
 
 -- the statement in hand: the one whose number in the block is the count of those done
 abbrev pub in_hand : Terms → Past → ℕ → Option Statement

@@ -36,6 +36,11 @@ held (Commit x ∷ past) = without (session_of past x) (held past)
 held (Abort x ∷ past) = without (session_of past x) (held past)
 held (e ∷ past) = held past
 
+-- what isn't this claim
+abbrev pub without_claim : Claim → List Claim → List Claim
+without_claim c [] = []
+without_claim c (d ∷ claims) = cond (same_claim c d) (without_claim c claims) (d ∷ without_claim c claims)
+
 -- a request for a lock enters at the end
 abbrev pub entered : ℕ → Want → List Claim → List Claim
 entered s (wants.Table table mode) claims = claims ++ record { session = s; table = table; mode = mode } ∷ []
@@ -46,7 +51,7 @@ entered s (wants.Ends y) claims = claims
 abbrev pub waiting : Past → List Claim
 waiting [] = []
 waiting (Wait x want ∷ past) = entered (session_of past x) want (waiting past)
-waiting (Lock x table mode ∷ past) = without (session_of past x) (waiting past)
+waiting (Lock x table mode ∷ past) = without_claim (claim past x table mode) (waiting past)
 waiting (Commit x ∷ past) = without (session_of past x) (waiting past)
 waiting (Abort x ∷ past) = without (session_of past x) (waiting past)
 waiting (e ∷ past) = waiting past

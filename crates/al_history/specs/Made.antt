@@ -6,24 +6,37 @@ use Rattle.al_history.specs.Past.{Past}
 use Rattle.al_history.specs.Hand.{session_of}
 use Rattle.al_history.specs.Locks.{is_grant}
 
+-- an entry is of a session, or of a transaction
+pub data Owner : Type 0 where
+  OfSession : ℕ → Owner
+  OfXact : ℕ → Owner
+
+abbrev pub who : Entry → Owner
+who (Give s block) = OfSession s
+who (Start s level) = OfSession s
+who (Wait x want) = OfXact x
+who (Lock x table mode) = OfXact x
+who (Look x) = OfXact x
+who (Make x table name shape) = OfXact x
+who (Add x table row) = OfXact x
+who (Read x names rows) = OfXact x
+who (Alter x table statement rewritten) = OfXact x
+who (Done s reply) = OfSession s
+who (Refuse s cause) = OfSession s
+who (Commit x) = OfXact x
+who (Abort x) = OfXact x
+who (Cancel s) = OfSession s
+who (End s) = OfSession s
+who (Close s) = OfSession s
+
+-- the session of an owner, after this past
+abbrev pub session_by : Past → Owner → ℕ
+session_by past (OfSession s) = s
+session_by past (OfXact x) = session_of past x
+
 -- the session of an entry, after this past
 abbrev pub made_by : Past → Entry → ℕ
-made_by past (Give s block) = s
-made_by past (Start s level) = s
-made_by past (Wait x want) = session_of past x
-made_by past (Lock x table mode) = session_of past x
-made_by past (Look x) = session_of past x
-made_by past (Make x table name shape) = session_of past x
-made_by past (Add x table row) = session_of past x
-made_by past (Read x names rows) = session_of past x
-made_by past (Alter x table statement rewritten) = session_of past x
-made_by past (Done s reply) = s
-made_by past (Refuse s cause) = s
-made_by past (Commit x) = session_of past x
-made_by past (Abort x) = session_of past x
-made_by past (Cancel s) = s
-made_by past (End s) = s
-made_by past (Close s) = s
+made_by past e = session_by past (who e)
 
 -- an entry is the session's, or the lock of a request that waits
 abbrev pub IsOf : ℕ → Past → Entry → Type 0

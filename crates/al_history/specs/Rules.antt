@@ -21,7 +21,7 @@ use Rattle.al_history.specs.declared.statement.Statement.TheVariants as statemen
 use Rattle.al_history.specs.declared.statement.Terms.{Terms}
 use Rattle.al_history.specs.Past.{Past}
 use Rattle.al_history.specs.Database.{Table, Database, named}
-use Rattle.al_history.specs.Hand.{hand, dones, refused, in_hand, xact_of, implicit_of, session_of, look_of, acts_of, closed, BlockState, FailedBlock, block_state}
+use Rattle.al_history.specs.Hand.{hand, fault_of, dones, refused, in_hand, xact_of, implicit_of, session_of, look_of, acts_of, closed, BlockState, FailedBlock, block_state}
 use Rattle.al_history.specs.Query.{column_names, answer}
 use Rattle.al_history.specs.Change.{shape_of, filled, alteration, altered, Passes}
 use Rattle.al_history.specs.View.{latest}
@@ -201,10 +201,14 @@ pub record AbortRule (terms : Terms) (past : Past) (x : ℕ) : Type 0 where
 pub record CancelRule (terms : Terms) (past : Past) (s : ℕ) : Type 0 where
   pub in_step : IsSome (hand past s)
 
--- a step ends when no statement is left or one was refused, and its implicit transaction has ended
+-- a step ends when its text is a script of which no statement is left, or when it was refused, and its implicit transaction has ended
+pub record HasNoMore (terms : Terms) (past : Past) (s : ℕ) : Type 0 where
+  pub is_script : fault_of terms (hand past s) ≡ None
+  pub none_left : in_hand terms past s ≡ None
+
 pub record EndRule (terms : Terms) (past : Past) (s : ℕ) : Type 0 where
   pub in_step : IsSome (hand past s)
-  pub over : (in_hand terms past s ≡ None) ⊎ (refused past s ≡ true)
+  pub over : HasNoMore terms past s ⊎ (refused past s ≡ true)
   pub none_implicit : implicit_of past s ≡ None
 
 -- an idle session without a transaction is closed, once

@@ -1,9 +1,10 @@
 -- What the entries of a journal weigh: a journal may weigh so much and no more.
-use Rattle.std.specs.Prelude.{ℕ, List, [], ◌∷◌, ◌+◌, ◌/◌, cond, length}
+use Rattle.std.specs.Prelude.{ℕ, List, [], ◌∷◌, ◌+◌, ◌/◌, cond, length, Option, Some, None}
 use Rattle.al_values.specs.declared.scalar.Value.{Value}
 use Rattle.al_values.specs.declared.scalar.Value.TheVariants as values
 use Rattle.al_history.specs.declared.entry.NumberedRow.{NumberedRow}
 use Rattle.al_history.specs.declared.entry.Rewritten.{Rewritten}
+use Rattle.al_history.specs.declared.entry.Entry.{Entry}
 use Rattle.al_history.specs.declared.entry.Entry.TheVariants.{Wait, Lock, Look, Make, Add, Read, Alter}
 use Rattle.al_history.specs.Past.{Past}
 use Rattle.al_history.specs.Locks.{is_grant}
@@ -35,14 +36,22 @@ rewritten_weight (table ∷ tables) = numbered_weight table.rows + rewritten_wei
 abbrev pub read_weight : List (List ℕ) → List (List Value) → ℕ
 read_weight names rows = 1 + length names + rows_weight rows
 
--- the entries so far; all others are light and weigh nothing, and so does the lock of a request that waits
+-- what an entry weighs after this past; all others are light and weigh nothing, and so does the lock of a request that waits
+abbrev pub entry_weight : Past → Entry → Option ℕ
+entry_weight past (Wait x want) = Some 2
+entry_weight past (Lock x table mode) = cond (is_grant past (Lock x table mode)) None (Some 1)
+entry_weight past (Look x) = Some 1
+entry_weight past (Make x table name shape) = Some (1 + length shape)
+entry_weight past (Add x table row) = Some (1 + row_weight row)
+entry_weight past (Read x names rows) = Some (read_weight names rows)
+entry_weight past (Alter x table statement rewritten) = Some (1 + rewritten_weight rewritten)
+entry_weight past e = None
+
+abbrev pub heavier : ℕ → Option ℕ → ℕ
+heavier weight None = weight
+heavier weight (Some more) = weight + more
+
+-- the weight of the entries so far
 abbrev pub weight : Past → ℕ
 weight [] = 0
-weight (Wait x want ∷ past) = weight past + 2
-weight (Lock x table mode ∷ past) = cond (is_grant past (Lock x table mode)) (weight past) (weight past + 1)
-weight (Look x ∷ past) = weight past + 1
-weight (Make x table name shape ∷ past) = weight past + (1 + length shape)
-weight (Add x table row ∷ past) = weight past + (1 + row_weight row)
-weight (Read x names rows ∷ past) = weight past + read_weight names rows
-weight (Alter x table statement rewritten ∷ past) = weight past + (1 + rewritten_weight rewritten)
-weight (e ∷ past) = weight past
+weight (e ∷ past) = heavier (weight past) (entry_weight past e)

@@ -1,17 +1,18 @@
 -- The journal of a whole run: what the driver gives and closes, and who goes on in between (src/test/isolation/README).
-use Rattle.std.specs.Prelude.{◌≡◌, ℕ, zero, suc, List, [], ◌∷◌, ◌++◌, ◌+◌, ◌<◌, ◌≤◌, ◌||◌, nat_le, Bool, true, false, not, cond, length, Option, Some, None, is_some, slice_get, option_map, unwrap_or, option_and_then}
+use Rattle.std.specs.Prelude.{◌≡◌, ℕ, zero, suc, List, [], ◌∷◌, ◌++◌, ◌+◌, ◌<◌, ◌≤◌, ◌||◌, nat_le, Bool, true, false, not, cond, length, Option, Some, None, is_some, slice_get, option_map, unwrap_or, option_and_then, map, flat_map}
 use Rattle.al_history.specs.declared.entry.Entry.{Entry}
 use Rattle.al_history.specs.declared.entry.Entry.TheVariants.{Give, Start, Wait, Lock, Look, Make, Add, Read, Alter, Done, Refuse, Commit, Abort, Cancel, End, Close}
-use Rattle.al_history.specs.declared.spec.Block.{Block}
-use Rattle.al_history.specs.declared.spec.Part.{Part}
-use Rattle.al_history.specs.declared.spec.Part.TheVariants as parts
-use Rattle.al_history.specs.declared.spec.Spec.{Spec}
+use Rattle.al_spec.specs.declared.spec.Block.{Block}
+use Rattle.al_spec.specs.declared.spec.Part.{Part}
+use Rattle.al_spec.specs.declared.spec.Part.TheVariants as parts
+use Rattle.al_spec.specs.declared.spec.Spec.{Spec}
 use Rattle.al_history.specs.declared.statement.Terms.{Terms}
 use Rattle.al_history.specs.declared.run.Setup.{Setup}
 use Rattle.al_history.specs.declared.run.Setup.TheVariants as setups
 use Rattle.al_history.specs.declared.run.Run.{Run}
 use Rattle.al_history.specs.Past.{Past, past_of}
 use Rattle.al_history.specs.Hand.{hand, session_of, closed}
+use Rattle.al_history.specs.Made.{made_by}
 use Rattle.al_history.specs.Tail.{owed}
 use Rattle.al_history.specs.Waits.{can_go_on}
 use Rattle.al_history.specs.Locks.{is_grant}
@@ -25,16 +26,27 @@ driver (Cancel s ∷ past) = driver past ++ Cancel s ∷ []
 driver (Close s ∷ past) = driver past ++ Close s ∷ []
 driver (e ∷ past) = driver past
 
+-- setup blocks before the sessions, and those of sessions
 abbrev pub is_setup : Part → Bool
 is_setup parts.Setup = true
-is_setup parts.Step = false
+is_setup parts.SessionSetup = true
+is_setup part = false
 
--- the numbers of the main setup blocks, in the file's order
-abbrev pub setup_blocks : ℕ → List Block → List ℕ
-setup_blocks number [] = []
-setup_blocks number (b ∷ blocks) = cond (is_setup b.part) (number ∷ setup_blocks (number + 1) blocks) (setup_blocks (number + 1) blocks)
+abbrev pub is_session_teardown : Part → Bool
+is_session_teardown parts.SessionTeardown = true
+is_session_teardown part = false
 
--- the session that a block is given to; setup blocks go to the control session, which is session 0
+abbrev pub is_teardown : Part → Bool
+is_teardown parts.Teardown = true
+is_teardown part = false
+
+-- the numbers of the blocks of such a part, in the file's order, where the first block has this number
+abbrev pub blocks_such : (Part → Bool) → ℕ → List Block → List ℕ
+blocks_such test number [] = []
+blocks_such test number (b ∷ blocks) = cond (test b.part) (number ∷ blocks_such test (number + 1) blocks) (blocks_such test (number + 1) blocks)
+
+-- the session that a block is given to; the setup blocks and the teardown block before the sessions go to the control session, which
+-- is session 0
 abbrev pub session_for : Spec → ℕ → ℕ
 session_for spec block = unwrap_or (option_map (λ (b : Block). b.session) (slice_get spec.blocks block)) 0
 
@@ -47,7 +59,7 @@ abbrev pub of_setup : Spec → Option ℕ → Option ℕ
 of_setup spec None = None
 of_setup spec (Some block) = option_and_then (λ (b : Block). cond (is_setup b.part) (Some block) None) (slice_get spec.blocks block)
 
--- the setup block of the first Refuse in the setup part
+-- the setup block of the first Refuse of one
 abbrev pub failed_setup : Spec → Past → Option ℕ
 failed_setup spec [] = None
 failed_setup spec (Refuse s cause ∷ past) = or_else (failed_setup spec past) (of_setup spec (hand past s))
@@ -57,81 +69,97 @@ abbrev pub setup_by : Option ℕ → Setup
 setup_by None = setups.Done
 setup_by (Some block) = setups.Failed block
 
--- how many blocks have been given
-abbrev pub gives : Past → ℕ
-gives [] = 0
-gives (Give s block ∷ past) = gives past + 1
-gives (e ∷ past) = gives past
-
--- whether a step was cancelled or a session closed: then no block is given any more
-abbrev pub ended : Past → Bool
-ended [] = false
-ended (Cancel s ∷ past) = true
-ended (Close s ∷ past) = true
-ended (e ∷ past) = ended past
+-- ---- what the driver has to do
 
 -- so many sessions from the first on, in ascending order
 abbrev pub sessions_from : ℕ → ℕ → List ℕ
 sessions_from first zero = []
 sessions_from first (suc count) = first ∷ sessions_from (first + 1) count
 
--- the first in a list of sessions of which a test is true
-abbrev pub first_such : (ℕ → Bool) → List ℕ → Option ℕ
-first_such test [] = None
-first_such test (s ∷ sessions) = cond (test s) (Some s) (first_such test sessions)
+-- the sessions of the file
+abbrev pub file_sessions : Spec → List ℕ
+file_sessions spec = sessions_from 1 (length spec.sessions)
+
+-- with the control session
+abbrev pub all_sessions : Spec → List ℕ
+all_sessions spec = 0 ∷ file_sessions spec
+
+-- A block is given; the steps of a permutation are, in order; a step that still waits is cancelled; a session is closed.
+pub data Task : Type 0 where
+  GiveBlock : ℕ → Task
+  GiveSteps : List ℕ → Task
+  CancelIfBusy : ℕ → Task
+  CloseSession : ℕ → Task
+
+-- a setup or teardown block is given, and cancelled where it still waits
+abbrev pub give_and_cancel : Spec → ℕ → List Task
+give_and_cancel spec block = GiveBlock block ∷ CancelIfBusy (session_for spec block) ∷ []
+
+abbrev pub each_block : Spec → (Part → Bool) → List Task
+each_block spec test = flat_map (give_and_cancel spec) (blocks_such test 0 spec.blocks)
+
+abbrev pub each_session : (ℕ → Task) → List ℕ → List Task
+each_session task sessions = map task sessions
+
+-- All that the driver has to do for a permutation: the setup blocks in the file's order, the main ones and then those of the sessions;
+-- the steps; the cancels of the sessions that are busy then; the teardown blocks of the sessions; the closes of the file's sessions;
+-- the main teardown block, in the control session; and the close of that.
+abbrev pub agenda : Spec → List ℕ → List Task
+agenda spec steps =
+    each_block spec is_setup
+    ++ (GiveSteps steps ∷ each_session CancelIfBusy (all_sessions spec))
+    ++ each_block spec is_session_teardown
+    ++ each_session CloseSession (file_sessions spec)
+    ++ each_block spec is_teardown
+    ++ (CloseSession 0 ∷ [])
+
+-- a setup part that fails ends the run: all sessions are closed, in ascending order
+abbrev pub closes : Spec → List Task
+closes spec = each_session CloseSession (all_sessions spec)
 
 -- a session is busy where it has a step in hand
 abbrev pub is_busy : Past → ℕ → Bool
 is_busy past s = is_some (hand past s)
 
-abbrev pub is_unclosed : Past → ℕ → Bool
-is_unclosed past s = not (closed past s)
+-- an entry of the driver, and what it has to do after it
+pub record Move : Type 0 where
+  pub entry : Entry
+  pub then_left : List Task
 
--- the block that comes next: all setup blocks in the file's order, then the steps of the permutation in order
-abbrev pub next_block : Spec → List ℕ → Past → Option ℕ
-next_block spec steps past = slice_get (setup_blocks 0 spec.blocks ++ steps) (gives past)
+-- The first move for a task, where there is one. A step for a busy session isn't given, and ends the steps.
+abbrev pub move_for : Spec → Past → Task → List Task → Option Move
+move_for spec past (GiveBlock block) tasks = Some (record { entry = Give (session_for spec block) block; then_left = tasks })
+move_for spec past (GiveSteps []) tasks = None
+move_for spec past (GiveSteps (step ∷ steps)) tasks = cond (is_busy past (session_for spec step)) None (Some (record { entry = Give (session_for spec step) step; then_left = GiveSteps steps ∷ tasks }))
+move_for spec past (CancelIfBusy s) tasks = cond (is_busy past s) (Some (record { entry = Cancel s; then_left = tasks })) None
+move_for spec past (CloseSession s) tasks = Some (record { entry = Close s; then_left = tasks })
 
--- A block is given unless its session is busy, or the list has ended. So a step for a busy session isn't given, and ends the
--- list, since a cancel comes next.
-abbrev pub give_next : Spec → Past → Option ℕ → Option Entry
-give_next spec past None = None
-give_next spec past (Some block) = cond (ended past || is_busy past (session_for spec block)) None (Some (Give (session_for spec block) block))
+abbrev pub or_move : Option Move → Option Move → Option Move
+or_move None other = other
+or_move (Some move) other = Some move
 
--- the busy session that is cancelled: the least
-abbrev pub cancel_due : Spec → Past → Option Entry
-cancel_due spec past = option_map (λ (s : ℕ). Cancel s) (first_such (is_busy past) (0 ∷ sessions_from 1 (length spec.sessions)))
+-- the first move for a list of tasks; a task without one is done
+abbrev pub next_move : Spec → Past → List Task → Option Move
+next_move spec past [] = None
+next_move spec past (task ∷ tasks) = or_move (move_for spec past task tasks) (next_move spec past tasks)
 
--- a setup block that still waits is cancelled: no step of the permutation has been given yet
-abbrev pub setup_cancel_due : Spec → Past → Option Entry
-setup_cancel_due spec past = cond (nat_le (gives past) (length (setup_blocks 0 spec.blocks))) (cancel_due spec past) None
+abbrev pub left_by : Option Move → List Task
+left_by None = []
+left_by (Some move) = move.then_left
 
-abbrev pub or_next : Option Entry → Option Entry → Option Entry
-or_next None other = other
-or_next (Some e) other = Some e
+-- what is left to do after this past, from the agenda on: what each entry of the driver leaves, and the closes alone after a refusal
+-- in the setup part
+abbrev pub left : Spec → List ℕ → Past → List Task
+left spec steps [] = agenda spec steps
+left spec steps (Give s block ∷ past) = left_by (next_move spec past (left spec steps past))
+left spec steps (Cancel s ∷ past) = left_by (next_move spec past (left spec steps past))
+left spec steps (Close s ∷ past) = left_by (next_move spec past (left spec steps past))
+left spec steps (Refuse s cause ∷ past) = cond (is_some (of_setup spec (hand past s))) (closes spec) (left spec steps past)
+left spec steps (e ∷ past) = left spec steps past
 
--- what the driver gives or cancels next: it cancels a setup block that still waits; else it gives the next block, where one may
--- be given; else it cancels a busy session
-abbrev pub step_due : Spec → List ℕ → Past → Option Entry
-step_due spec steps past = or_next (setup_cancel_due spec past) (or_next (give_next spec past (next_block spec steps past)) (cancel_due spec past))
-
--- a setup part that failed ends the run
-abbrev pub unless_failed : Option ℕ → Option Entry → Option Entry
-unless_failed None due = due
-unless_failed (Some block) due = None
-
--- the order in which sessions are closed: those of the file and then the control session; all in ascending order where the
--- setup part failed
-abbrev pub closing_order : Spec → Option ℕ → List ℕ
-closing_order spec None = sessions_from 1 (length spec.sessions) ++ 0 ∷ []
-closing_order spec (Some block) = 0 ∷ sessions_from 1 (length spec.sessions)
-
-abbrev pub close_due : Spec → Past → Option Entry
-close_due spec past = option_map (λ (s : ℕ). Close s) (first_such (is_unclosed past) (closing_order spec (failed_setup spec past)))
-
--- the driver's next entry: it gives and cancels, unless the setup part failed, and then closes the sessions. None where all is
--- done.
+-- the driver's next entry, None where all is done
 abbrev pub due : Spec → List ℕ → Past → Option Entry
-due spec steps past = or_next (unless_failed (failed_setup spec past) (step_due spec steps past)) (close_due spec past)
+due spec steps past = option_map (λ (move : Move). move.entry) (next_move spec past (left spec steps past))
 
 -- each entry of the driver was due at its place
 abbrev pub AsDue : Spec → List ℕ → Past → Type 0
@@ -164,19 +192,9 @@ abbrev pub InTurn : Terms → Past → Entry → Type 0
 InTurn terms past (Give s block) = IsIdle past
 InTurn terms past (Cancel s) = IsIdle past
 InTurn terms past (Close s) = Unit {0}
-InTurn terms past (Start s level) = IsTurn (owed terms past) past s
-InTurn terms past (Done s reply) = IsTurn (owed terms past) past s
-InTurn terms past (Refuse s cause) = IsTurn (owed terms past) past s
-InTurn terms past (End s) = IsTurn (owed terms past) past s
-InTurn terms past (Wait x want) = IsTurn (owed terms past) past (session_of past x)
 InTurn terms past (Lock x table mode) = Unless (is_grant past (Lock x table mode)) (IsTurn (owed terms past) past (session_of past x))
-InTurn terms past (Look x) = IsTurn (owed terms past) past (session_of past x)
-InTurn terms past (Make x table name shape) = IsTurn (owed terms past) past (session_of past x)
-InTurn terms past (Add x table row) = IsTurn (owed terms past) past (session_of past x)
-InTurn terms past (Read x names rows) = IsTurn (owed terms past) past (session_of past x)
-InTurn terms past (Alter x table statement rewritten) = IsTurn (owed terms past) past (session_of past x)
-InTurn terms past (Commit x) = IsTurn (owed terms past) past (session_of past x)
 InTurn terms past (Abort x) = if_in_step (hand past (session_of past x)) (IsTurn (owed terms past) past (session_of past x))
+InTurn terms past e = IsTurn (owed terms past) past (made_by past e)
 
 abbrev pub Driven : Terms → Past → Type 0
 Driven terms [] = Unit {0}

@@ -39,6 +39,10 @@ pub enum Reply {
 /// What a run has a limit of.
 #[derive(Clone, Copy, Debug, PartialEq, Eq)]
 pub enum RunLimit {
+    /// The tables that are made in it, those of aborted transactions counted.
+    Tables,
+    /// The columns of a table.
+    Columns,
     /// The weight of its journal.
     Journal,
 }
@@ -46,6 +50,16 @@ pub enum RunLimit {
 /// Why a statement was refused. The name is that of the thing that is missing or in the way.
 #[derive(Debug, Drop)]
 pub enum Cause {
+    /// 42601: the block's text is no script, for a token can't stand there.
+    Syntax {
+        /// The byte of the block's text.
+        at: u32,
+    },
+    /// 0A000: the block's text has a form that isn't built.
+    NotInProfile {
+        /// The byte of the block's text.
+        at: u32,
+    },
     /// 42P01: no table has the name.
     NoTable {
         /// The name.

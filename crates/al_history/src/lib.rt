@@ -5,16 +5,15 @@
 mod entry;
 mod history;
 mod run;
-mod spec;
 mod statement;
 
 pub use al_modes::{Level, Mode};
-use al_values::{IdList, ListOf};
+pub use al_spec::{Block, BlockList, Part, PermutationList, Spec, SpecFault, SpecLimit};
+use al_values::ListOf;
 pub use entry::{Cause, Entry, NumberedRow, Reply, Rewritten, RunLimit, Tag, Want};
 pub use history::History;
 pub use run::{Run, Setup};
-pub use spec::{Block, Part, Spec, SpecFault};
-pub use statement::{Column, ScriptBlock, Scripts, Statement, Terms};
+pub use statement::{Column, ScriptBlock, Scripts, SqlFault, Statement, Terms};
 
 /// The columns of a table, in order.
 pub type Shape = ListOf<Column>;
@@ -24,12 +23,6 @@ pub type Script = ListOf<Statement>;
 
 /// The blocks of a run, each with its session and its statements.
 pub type ScriptList = ListOf<ScriptBlock>;
-
-/// The blocks of a spec file, in the file's order.
-pub type BlockList = ListOf<Block>;
-
-/// The permutations of a spec file, each a list of block numbers.
-pub type PermutationList = ListOf<IdList>;
 
 /// Rows that keep their numbers.
 pub type NumberedRowList = ListOf<NumberedRow>;

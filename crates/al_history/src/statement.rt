@@ -57,13 +57,28 @@ pub enum Statement {
     },
 }
 
+/// Why a text is no script, and at which byte.
+#[derive(Clone, Copy, Debug, PartialEq, Eq, Drop)]
+pub enum SqlFault {
+    /// A token that can't stand there, or the text's length where it ends too early.
+    Syntax {
+        /// The byte.
+        at: u32,
+    },
+    /// A form that isn't built.
+    NotInProfile {
+        /// The byte.
+        at: u32,
+    },
+}
+
 /// A block of a run: the session that it is given to, and its statements.
 #[derive(Debug, Drop)]
 pub struct ScriptBlock {
     /// The session's number.
     pub session: u32,
-    /// The statements, in order.
-    pub script: Script,
+    /// The statements, in order, or why its text is no script.
+    pub script: Result<Script, SqlFault>,
 }
 
 /// The blocks that may be given in a run, by number, and how many sessions there are, session 0 counted too.

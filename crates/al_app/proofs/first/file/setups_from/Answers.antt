@@ -1,5 +1,5 @@
 use Rattle.std.proofs.Common.{ap, sym, ◌∙◌, Some, List}
-use Rattle.al_history.specs.declared.spec.Block.{Block}
+use Rattle.al_spec.specs.declared.spec.Block.{Block}
 use Rattle.al_app.specs.declared.first.outside.Token.{Token}
 use Rattle.al_app.proofs.FirstLoops.{setups_go_on, setups_end}
 use Rattle.al_app.proofs.first.file.setups_from.Goals as goal
