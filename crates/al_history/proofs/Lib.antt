@@ -1,3 +1,4 @@
+pub mod Agenda
 pub mod Claims
 pub mod Clear
 pub mod Counts
