@@ -1,5 +1,5 @@
 -- Blocks that run, statement by statement, and wrong courses that the definitions refuse.
-use Rattle.std.specs.Prelude.{◌≡◌, ℕ, List, [], ◌∷◌, Option, None, Some, refl}
+use Rattle.std.specs.Prelude.{◌≡◌, List, [], ◌∷◌, None, refl}
 use Rattle.al_history.specs.declared.statement.Statement.TheVariants.{Begin, Commit, Rollback, Insert, Select}
 use Rattle.al_sessions.specs.declared.block.Control.{Control}
 use Rattle.al_sessions.specs.declared.block.Control.TheVariants.{Begins, EndsBlock, Other}
@@ -7,13 +7,13 @@ use Rattle.al_sessions.specs.declared.block.BlockState.{BlockState}
 use Rattle.al_sessions.specs.declared.block.BlockState.TheVariants.{Outside, Open, Failed}
 use Rattle.al_sessions.specs.declared.step.Progress.{Progress}
 use Rattle.al_sessions.specs.declared.step.Next.{Next}
-use Rattle.al_sessions.specs.declared.step.Next.TheVariants.{Idle, Run, Finish}
+use Rattle.al_sessions.specs.declared.step.Next.TheVariants.{Run, Finish}
 use Rattle.al_sessions.specs.declared.step.How.{How}
 use Rattle.al_sessions.specs.declared.step.How.TheVariants.{Done, Refused}
 use Rattle.al_sessions.specs.declared.step.Ending.{Ending}
 use Rattle.al_sessions.specs.declared.step.Ending.TheVariants.{Goes, Commits, Aborts, Ends}
 use Rattle.al_sessions.specs.Blocks.{controls_of, controls_given}
-use Rattle.al_sessions.specs.Steps.{at_rest, given, next_of, after, ending_of}
+use Rattle.al_sessions.specs.Steps.{given, next_of, after, ending_of}
 
 -- what a session does next before each statement, and how the step went on after it
 abbrev pub course : List How → Progress → List (Next × Ending)

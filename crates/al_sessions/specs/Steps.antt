@@ -1,5 +1,5 @@
 -- The step that a session has in hand, and how it goes on and ends (3.4).
-use Rattle.std.specs.Prelude.{ℕ, ◌+◌, ◌-◌, nat_lt, if◌then◌else◌, List, length, Option, Some, None, is_some, slice_get, slice_set, unwrap_or}
+use Rattle.std.specs.Prelude.{ℕ, ◌+◌, ◌-◌, nat_lt, if◌then◌else◌, List, length, Option, Some, None, is_some, slice_get, unwrap_or}
 use Rattle.std.specs.Option.{option_map_or}
 use Rattle.al_sessions.specs.declared.block.Control.{Control}
 use Rattle.al_sessions.specs.declared.block.BlockState.{BlockState}

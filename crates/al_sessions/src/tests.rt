@@ -19,7 +19,7 @@ fn statement(alloc: Global, control: Control) -> Statement {
         Control::Begins => Statement::Begin,
         Control::EndsBlock => Statement::Commit,
         Control::Other => Statement::Select {
-            table: Name::new(alloc),
+            table: Name::from_string(String::new(alloc)),
         },
     }
 }
