@@ -223,7 +223,6 @@ module _ (terms : Terms) (p : Parts) (s : ℕ) (t : Session) (x : ℕ) (c : Clai
         queues = a.settled k.kept.sound.queues;
         weighed = rw past_is (a.weighs ∙ got_weighs);
         reserved = rw (sessions, got_waiting) (omega (arith, k.kept.sound.reserved, a.room));
-        single = k.kept.sound.single;
       };
       wants_so = rw past_is (wants_locked (past_of p.journal) x c.table c.mode (λ d there other. k.kept.wants_so d there));
       mirrors = λ r u there. rw past_is (mirrors_stay terms (past_of p.journal) (Lock x c.table c.mode ∷ past_of p.journal) p.sessions s t k.seat k.kept.mirrors (others_so (Lock x c.table c.mode) by) got_mirror r u (rw sessions at there));
@@ -279,7 +278,6 @@ module _ (terms : Terms) (p : Parts) (s : ℕ) (t : Session) (x : ℕ) (c : Clai
         queues = a.settled k.kept.sound.queues;
         weighed = rw past_is (a.weighs ∙ queued_weighs);
         reserved = rw sessions (omega (arith, k.kept.sound.reserved, a.room, queued_waiting, light_set p.sessions s t (record t { wants = Some (wants.Table c.table c.mode) }) k.seat));
-        single = k.kept.sound.single;
       };
       wants_so = rw past_is (wants_queued (past_of p.journal) x c (by.session ∙ sym k.own) (rw k.own none_asked) (λ d there other. k.kept.wants_so d there));
       mirrors = λ r u there. rw past_is (mirrors_set terms (past_of p.journal) (Wait x (wants.Table c.table c.mode) ∷ past_of p.journal) p.sessions s (record t { wants = Some (wants.Table c.table c.mode) }) (λ v w other is. k.kept.mirrors v w is) (others_so (Wait x (wants.Table c.table c.mode)) by) queued_mirror r u (rw sessions at there));

@@ -109,7 +109,7 @@ light_stops seat block busy some b = by_case seat.xact refl some where
   by_case None is some = absurd cc
   by_case (Some x) is some = rw (is, busy) (omega arith)
 
-pub begin_over : (terms : Terms) (p : Parts) (s : ℕ) (seat : Session) → IsKept terms p → slice_get p.sessions s ≡ Some seat → can_go_on (past_of p.journal) s ≡ true → IsSome seat.xact → statement_of terms seat.hand 0 ≡ Some statements.Begin → IsOver terms p s 0 seat seat (past_of p.journal) seat.xact (replies.Tag tags.Begin 0)
+pub begin_over : (terms : Terms) (p : Parts) (s : ℕ) (seat : Session) → IsKept terms p → slice_get p.sessions s ≡ Some seat → can_go_on (past_of p.journal) s ≡ true → IsSome seat.xact → statement_of terms seat.hand seat.done ≡ Some statements.Begin → IsOver terms p s 0 seat seat (past_of p.journal) seat.xact (replies.Tag tags.Begin 0)
 begin_over terms p s seat kept there can some statement =
     let old : Past = past_of p.journal in
     let g : IsGoing terms old s seat = going terms p s seat kept there can in
@@ -148,7 +148,7 @@ end_answers true state = refl
 end_answers false state = refl
 
 -- no transaction is open
-pub none_ended : (terms : Terms) (p : Parts) (s : ℕ) (seat : Session) (commits : Bool) → IsKept terms p → slice_get p.sessions s ≡ Some seat → can_go_on (past_of p.journal) s ≡ true → statement_of terms seat.hand 0 ≡ Some (cond commits statements.Commit statements.Rollback) → seat.xact ≡ None → IsEnded terms p s seat (past_of p.journal) commits
+pub none_ended : (terms : Terms) (p : Parts) (s : ℕ) (seat : Session) (commits : Bool) → IsKept terms p → slice_get p.sessions s ≡ Some seat → can_go_on (past_of p.journal) s ≡ true → statement_of terms seat.hand seat.done ≡ Some (cond commits statements.Commit statements.Rollback) → seat.xact ≡ None → IsEnded terms p s seat (past_of p.journal) commits
 none_ended terms p s seat commits kept there can statement none =
     let old : Past = past_of p.journal in
     let g : IsGoing terms old s seat = going terms p s seat kept there can in
@@ -185,7 +185,7 @@ unfailed_tag OpenBlock unfailed = refl
 unfailed_tag (FailedBlock r) unfailed = absurd (unfailed r refl)
 
 -- the open transaction ends by this entry, and locks are granted
-module _ (terms : Terms) (p m : Parts) (s x : ℕ) (seat : Session) (commits : Bool) (kept : IsKept terms p) (there : slice_get p.sessions s ≡ Some seat) (can : can_go_on (past_of p.journal) s ≡ true) (statement : statement_of terms seat.hand 0 ≡ Some (cond commits statements.Commit statements.Rollback)) (own : seat.xact ≡ Some x) where
+module _ (terms : Terms) (p m : Parts) (s x : ℕ) (seat : Session) (commits : Bool) (kept : IsKept terms p) (there : slice_get p.sessions s ≡ Some seat) (can : can_go_on (past_of p.journal) s ≡ true) (statement : statement_of terms seat.hand seat.done ≡ Some (cond commits statements.Commit statements.Rollback)) (own : seat.xact ≡ Some x) where
   abbrev old : Past
   old = past_of p.journal
 
@@ -266,7 +266,7 @@ module _ (terms : Terms) (p m : Parts) (s x : ℕ) (seat : Session) (commits : B
         let g : IsGoing terms old s seat = going_so in
         let by : IsXact old s x = is_open in
         let amid : IsAmid terms p s 0 = amid_begins terms p s kept in
-        let in_hand_is : statement_of terms seat.hand 0 ≡ Some statements.Commit = rw commits_so at statement in
+        let in_hand_is : statement_of terms seat.hand seat.done ≡ Some statements.Commit = rw commits_so at statement in
         let comes_so : MayCome terms old (Commit x) = comes_commit terms old s (doing old s) kept.sound.legal refl kept.clear.settled x by g.block (g.outline.hand_is ∙ g.busy) g.under.none_refused (inr (rw (g.outline.hand_is, g.under.none_done) in_hand_is)) (rw kept.clear.owed_is tt) in
         let begins : Tail terms s old (Commit x ∷ old) false (driver old) (IsLeast old s) = tail_begins terms s old old 0 (Commit x) (stage_begins terms s old kept.sound.legal kept.clear.settled kept.clear.owed_is) (omega arith) (omega arith) (tail_commit x) (λ past r. refl) by comes_so (λ least. rw (kept.clear.owed_is, by.session) least) in
         let tag : commit_tag (state_of seat.block) ≡ tags.Commit = unfailed_tag (state_of seat.block) (λ r failed. open_unfailed terms old s x r kept.sound.legal kept.clear.owed_is by.open_xact (g.outline.block_is ∙ failed)) in
@@ -279,7 +279,7 @@ module _ (terms : Terms) (p m : Parts) (s x : ℕ) (seat : Session) (commits : B
         let by : IsXact old s x = is_open in
         let amid : IsAmid terms p s 0 = amid_begins terms p s kept in
         let busy : hand old s ≡ Some g.block = g.outline.hand_is ∙ g.busy in
-        let in_hand_is : statement_of terms seat.hand 0 ≡ Some statements.Rollback = rw aborts_so at statement in
+        let in_hand_is : statement_of terms seat.hand seat.done ≡ Some statements.Rollback = rw aborts_so at statement in
         let comes_so : MayCome terms old (Abort x) = comes_abort terms old s (doing old s) kept.sound.legal refl kept.clear.settled x by (inr (rw (g.outline.hand_is, g.under.none_done) in_hand_is)) (rw kept.clear.owed_is tt) in
         let begins : Tail terms s old (Abort x ∷ old) false (driver old) (IsLeast old s) = tail_begins terms s old old 0 (Abort x) (stage_begins terms s old kept.sound.legal kept.clear.settled kept.clear.owed_is) (omega arith) (omega arith) (tail_abort x) (λ past r. refl) by comes_so (λ least. rw (by.session, busy, kept.clear.owed_is) least) in
         let owes : owed terms (Abort x ∷ old) ≡ Some (Done s (end_reply seat commits)) = rw (by.session, busy, g.under.none_refused, aborts_so) refl in
@@ -301,7 +301,7 @@ failed_cause statements.Commit refuse goes_on = absurd cc
 failed_cause statements.Rollback refuse goes_on = absurd cc
 failed_cause statement refuse goes_on = refl
 
-pub failed_refused : (terms : Terms) (p : Parts) (s place : ℕ) (seat : Session) (statement : Statement) → IsKept terms p → slice_get p.sessions s ≡ Some seat → can_go_on (past_of p.journal) s ≡ true → statement_of terms seat.hand 0 ≡ Some statement → starts NoBlock statement ≡ true → seat.block ≡ blocks.Failed place → CanBeRefused terms (past_of p.journal) s seat (causes.BlockFailed place)
+pub failed_refused : (terms : Terms) (p : Parts) (s place : ℕ) (seat : Session) (statement : Statement) → IsKept terms p → slice_get p.sessions s ≡ Some seat → can_go_on (past_of p.journal) s ≡ true → statement_of terms seat.hand seat.done ≡ Some statement → starts NoBlock statement ≡ true → seat.block ≡ blocks.Failed place → CanBeRefused terms (past_of p.journal) s seat (causes.BlockFailed place)
 failed_refused terms p s place seat statement kept there can in_hand_is goes_on failed =
     let old : Past = past_of p.journal in
     let g : IsGoing terms old s seat = going terms p s seat kept there can in

@@ -136,7 +136,7 @@ record HasLooked (terms : Terms) (p : Parts) (s : ℕ) (t : Session) (x : ℕ) (
   weighs_so : p.weight + cond t.looked 0 1 ≡ weight past
   more : length (past_of p.journal) ≤ length past
 
-module _ (terms : Terms) (p : Parts) (s : ℕ) (t : Session) (x : ℕ) (name : List ℕ) (columns : List (List ℕ)) (kept : IsKept terms p) (seat : slice_get p.sessions s ≡ Some t) (goes_on : can_go_on (past_of p.journal) s ≡ true) (in_xact : t.xact ≡ Some x) (statement_is : statement_of terms t.hand 0 ≡ Some (statements.CreateTable name columns)) where
+module _ (terms : Terms) (p : Parts) (s : ℕ) (t : Session) (x : ℕ) (name : List ℕ) (columns : List (List ℕ)) (kept : IsKept terms p) (seat : slice_get p.sessions s ≡ Some t) (goes_on : can_go_on (past_of p.journal) s ≡ true) (in_xact : t.xact ≡ Some x) (statement_is : statement_of terms t.hand t.done ≡ Some (statements.CreateTable name columns)) where
   -- before its Look it lacks no lock, so that the limit of the journal alone can refuse it
   before_so : t.looked ≡ false → cause_at terms (past_of p.journal) x (statements.CreateTable name columns) [] None ≡ over_by terms.weight p.weight 1
   before_so before =
@@ -290,7 +290,6 @@ module _ (terms : Terms) (p : Parts) (s : ℕ) (t : Session) (x : ℕ) (name : L
           queues = rw locks kept.sound.queues;
           weighed = rw past_is (weighed ∙ rw h.weighs_so refl);
           reserved = rw (sessions, locks) (omega (arith, kept.sound.reserved, room, light_set p.sessions s t (record t { looked = true; wants = Some (wants.Ends other) }) seat));
-          single = kept.sound.single;
         };
         wants_so = rw past_is (waits_want none);
         mirrors = λ r u there. rw past_is (mirrors_set terms (past_of p.journal) (Wait x (wants.Ends other) ∷ past) p.sessions s (record t { looked = true; wants = Some (wants.Ends other) }) (λ v w apart is. kept.mirrors v w is) (λ v apart. others_stay terms past s v h.works.legal apart (Wait x (wants.Ends other)) h.works.by ∙ h.stage.others v apart) waits_mirror r u (rw sessions at there));
@@ -324,7 +323,7 @@ look_room terms p true kept = omega (arith, weighs terms (past_of p.journal) kep
 look_room terms p false kept = omega (arith, weighs terms (past_of p.journal) kept.sound.legal, kept.sound.weighed)
 
 -- the statement, in the hand of an open transaction, where the journal has a place for its Look
-module _ (terms : Terms) (p : Parts) (s : ℕ) (t : Session) (x : ℕ) (name : List ℕ) (columns : List (List ℕ)) (kept : IsKept terms p) (seat : slice_get p.sessions s ≡ Some t) (goes_on : can_go_on (past_of p.journal) s ≡ true) (in_xact : t.xact ≡ Some x) (statement_is : statement_of terms t.hand 0 ≡ Some (statements.CreateTable name columns)) (fits : cond t.looked None (over_by terms.weight p.weight 1) ≡ None) where
+module _ (terms : Terms) (p : Parts) (s : ℕ) (t : Session) (x : ℕ) (name : List ℕ) (columns : List (List ℕ)) (kept : IsKept terms p) (seat : slice_get p.sessions s ≡ Some t) (goes_on : can_go_on (past_of p.journal) s ≡ true) (in_xact : t.xact ≡ Some x) (statement_is : statement_of terms t.hand t.done ≡ Some (statements.CreateTable name columns)) (fits : cond t.looked None (over_by terms.weight p.weight 1) ≡ None) where
   abbrev now_looked : HasLooked terms p s t x name columns (look_past t.looked x (past_of p.journal))
   now_looked = has_looked terms p s t x name columns kept seat goes_on in_xact statement_is fits
 

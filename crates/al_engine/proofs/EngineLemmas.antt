@@ -24,7 +24,7 @@ use Rattle.al_history.proofs.Turns.{Went, extends_on, extends_by, extends_none}
 use Rattle.al_queue.specs.Walk.{released}
 use Rattle.al_queue.specs.Settled.{IsSettled, HandsOn}
 use Rattle.al_engine.specs.declared.sessions.Session.{Session}
-use Rattle.al_engine.specs.Ran.{IsSingle, AreSingle, WentOn, IsWaitingTurn, IsCancelled, IsClosed}
+use Rattle.al_engine.specs.Ran.{WentOn, IsWaitingTurn, IsCancelled, IsClosed}
 use Rattle.al_engine.specs.LockTie.{locked_by, locks_of, is_granted}
 use Rattle.al_engine.specs.Sessions.{idle_session, IsMirror, xact_in, woken, is_held_up, light, light_of, of_step, of_xact}
 use Rattle.al_engine.specs.Kept.{Parts, IsAmid, IsKept, IsSame, CanBeRefused, IsRefused}
@@ -60,7 +60,7 @@ module _ (terms : Terms) (p : Parts) (kept : IsKept terms p) (s : ℕ) (t : Sess
   is_busy there e = let block = some_of t.hand e in (block.0, block.1, hand_is there ∙ block.1)
 
   -- its statement in hand is the one of its block
-  pub statement_there : slice_get p.sessions s ≡ Some t → is_some t.hand ≡ true → in_hand terms (past_of p.journal) s ≡ statement_of terms t.hand 0
+  pub statement_there : slice_get p.sessions s ≡ Some t → is_some t.hand ≡ true → in_hand terms (past_of p.journal) s ≡ statement_of terms t.hand t.done
   statement_there there e =
       let block = some_of t.hand e in
       let none_done : dones (past_of p.journal) s ≡ 0 = ((kept.mirrors s t there).underway block.0 block.1).none_done in
@@ -83,8 +83,8 @@ module _ (terms : Terms) (p : Parts) (kept : IsKept terms p) (s : ℕ) (t : Sess
 
 -- ---- the first moment
 
-pub open_keeps : (terms : Terms) (p : Parts) → p.journal.entries ≡ [] → p.journal.room ≡ terms.scripts.sessions → p.sessions ≡ replicate terms.scripts.sessions idle_session → p.tables ≡ [] → p.locks ≡ record { sessions = terms.scripts.sessions; locks = record { held = []; waiting = []; granted = [] } } → p.committed ≡ [] → p.weight ≡ 0 → AreSingle terms.scripts → IsKept terms p
-open_keeps terms p none room idle tables locks committed weighs single =
+pub open_keeps : (terms : Terms) (p : Parts) → p.journal.entries ≡ [] → p.journal.room ≡ terms.scripts.sessions → p.sessions ≡ replicate terms.scripts.sessions idle_session → p.tables ≡ [] → p.locks ≡ record { sessions = terms.scripts.sessions; locks = record { held = []; waiting = []; granted = [] } } → p.committed ≡ [] → p.weight ≡ 0 → IsKept terms p
+open_keeps terms p none room idle tables locks committed weighs =
     let past : past_of p.journal ≡ [] = rw none refl in
     record {
       sound = record {
@@ -101,7 +101,6 @@ open_keeps terms p none room idle tables locks committed weighs single =
         queues = rw locks tt;
         weighed = rw past weighs;
         reserved = rw (idle, locks, light_idle terms.scripts.sessions) (omega (arith, room));
-        single = single;
       };
       wants_so = λ c there. absurd (let wrong : false ≡ true = rw past at there in cc);
       mirrors = λ r t is.
@@ -131,7 +130,6 @@ same_keeps terms p q same kept =
         queues = rw same.locks sound.queues;
         weighed = rw (same.journal, same.weight) sound.weighed;
         reserved = rw (same.sessions, same.locks) (omega (arith, sound.reserved, same.room));
-        single = sound.single;
       };
       wants_so = rw same.journal kept.wants_so;
       mirrors = rw (same.journal, same.sessions) kept.mirrors;
@@ -139,18 +137,6 @@ same_keeps terms p q same kept =
     }
 
 -- ---- a block is given
-
-single_at : (sessions : ℕ) (blocks : List ScriptBlock) (block : ℕ) (b : ScriptBlock) → AllByRecursion (IsSingle sessions) blocks → slice_get blocks block ≡ Some b → IsSingle sessions b
-single_at sessions [] block b all is = absurd cc
-single_at sessions (c ∷ blocks) zero b all is = let e : c ≡ b = cc in subst (λ (d : ScriptBlock). IsSingle sessions d) e all.0
-single_at sessions (c ∷ blocks) (suc block) b all is = single_at sessions blocks block b all.1 is
-
--- a block that is given has its one statement
-has_its_one : (terms : Terms) (s block : ℕ) → AreSingle terms.scripts → option_map (λ (b : ScriptBlock). b.session) (slice_get terms.scripts.blocks block) ≡ Some s → IsSome (statement_of terms (Some block) 0) × (statement_of terms (Some block) 1 ≡ None)
-has_its_one terms s block single of_session = by_block (slice_get terms.scripts.blocks block) refl of_session where
-  by_block : (o : Option ScriptBlock) → slice_get terms.scripts.blocks block ≡ o → option_map (λ (b : ScriptBlock). b.session) o ≡ Some s → IsSome (statement_of terms (Some block) 0) × (statement_of terms (Some block) 1 ≡ None)
-  by_block None is e = absurd cc
-  by_block (Some b) is e = let one = single_at terms.scripts.sessions terms.scripts.blocks block b single is in (rw is one.has_one, rw is one.has_no_more)
 
 -- five light entries at most are reserved for a step
 step_light : (o : Option ℕ) → of_step o ≤ 5
@@ -185,7 +171,6 @@ give_keeps terms p new s block t kept there none known of_session open_so is roo
         queues = sound.queues;
         weighed = rw is sound.weighed;
         reserved = omega (arith, light_set p.sessions s t (record t { hand = Some block; looked = false; wants = None }) there, was, step_light t.xact, room, sound.reserved);
-        single = sound.single;
       };
       wants_so = rw is (λ c waits. let other : (s == c.session) ≡ false = idle_asks terms (past_of p.journal) s sound.legal kept.wants_so idle c waits in rw other (kept.wants_so c waits));
       mirrors = rw is (mirrors_set terms (past_of p.journal) (Give s block ∷ past_of p.journal) p.sessions s _ (λ r u other at. kept.mirrors r u at) others

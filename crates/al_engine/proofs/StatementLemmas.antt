@@ -54,7 +54,7 @@ pub record Works (terms : Terms) (past : Past) (s : ℕ) (t : Session) (x : ℕ)
   pub doing_is : doing past s ≡ at_work t x look
   pub by : IsXact past s x
   pub in_xact : t.xact ≡ Some x
-  pub statement_is : statement_of terms t.hand 0 ≡ Some statement
+  pub statement_is : statement_of terms t.hand t.done ≡ Some statement
   pub last : statement_of terms t.hand 1 ≡ None
   pub unfailed : block_cause (state_of t.block) statement ≡ None
 
@@ -67,7 +67,7 @@ block_clear past s OpenBlock statement is never = refl
 block_clear past s (FailedBlock r) statement is never = absurd (never r is)
 
 -- between two calls
-module _ (terms : Terms) (p : Parts) (s : ℕ) (t : Session) (x : ℕ) (statement : Statement) (kept : IsKept terms p) (seat : slice_get p.sessions s ≡ Some t) (in_xact : t.xact ≡ Some x) (statement_is : statement_of terms t.hand 0 ≡ Some statement) where
+module _ (terms : Terms) (p : Parts) (s : ℕ) (t : Session) (x : ℕ) (statement : Statement) (kept : IsKept terms p) (seat : slice_get p.sessions s ≡ Some t) (in_xact : t.xact ≡ Some x) (statement_is : statement_of terms t.hand t.done ≡ Some statement) where
   mirror : IsMirror terms (doing (past_of p.journal) s) t
   mirror = kept.mirrors s t seat
 
@@ -262,7 +262,6 @@ module _ (terms : Terms) (p q : Parts) (s rows : ℕ) (kept : IsKept terms p) (s
       queues = rw still.locks kept.sound.queues;
       weighed = still.weighed;
       reserved = rw (still.sessions, still.locks) (omega (arith, kept.sound.reserved, still.room));
-      single = kept.sound.single;
     };
     others_want = λ c there other. ap (λ (d : Doing). d.wants) (st.others c.session (turn c.session s other)) ∙ kept.wants_so c (rw still.waiting_same at there);
     others = λ r u other there. rw (st.others r other) (kept.mirrors r u (rw still.sessions at there));

@@ -71,7 +71,7 @@ begun x seat = record seat { xact = Some x; wants = None }
 light_begins : (x : ℕ) (seat : Session) (block : ℕ) → seat.hand ≡ Some block → seat.xact ≡ None → light_of (begun x seat) + 1 ≡ light_of seat
 light_begins x seat block busy none = rw (busy, none) (omega arith)
 
-module _ (terms : Terms) (p : Parts) (s x : ℕ) (seat : Session) (kept : IsKept terms p) (there : slice_get p.sessions s ≡ Some seat) (can : can_go_on (past_of p.journal) s ≡ true) (needs : option_map (starts (state_of seat.block)) (statement_of terms seat.hand 0) ≡ Some true) (none_open : seat.xact ≡ None) where
+module _ (terms : Terms) (p : Parts) (s x : ℕ) (seat : Session) (kept : IsKept terms p) (there : slice_get p.sessions s ≡ Some seat) (can : can_go_on (past_of p.journal) s ≡ true) (needs : option_map (starts (state_of seat.block)) (statement_of terms seat.hand seat.done) ≡ Some true) (none_open : seat.xact ≡ None) where
   abbrev old : Past
   old = past_of p.journal
 
@@ -160,7 +160,6 @@ module _ (terms : Terms) (p : Parts) (s x : ℕ) (seat : Session) (kept : IsKept
       queues = rw locks kept.sound.queues;
       weighed = rw noted (weight_same ∙ kept.sound.weighed);
       reserved = reserved_so;
-      single = kept.sound.single;
     }
 
     pub begins_kept : IsKept terms q
@@ -175,5 +174,5 @@ module _ (terms : Terms) (p : Parts) (s x : ℕ) (seat : Session) (kept : IsKept
 
 -- ---- whose statement is in hand
 
-pub statement_there : (terms : Terms) (p : Parts) (s : ℕ) (seat : Session) → IsKept terms p → slice_get p.sessions s ≡ Some seat → can_go_on (past_of p.journal) s ≡ true → IsSome (statement_of terms seat.hand 0)
+pub statement_there : (terms : Terms) (p : Parts) (s : ℕ) (seat : Session) → IsKept terms p → slice_get p.sessions s ≡ Some seat → can_go_on (past_of p.journal) s ≡ true → IsSome (statement_of terms seat.hand seat.done)
 statement_there terms p s seat kept there can = let g : IsGoing terms (past_of p.journal) s seat = going terms p s seat kept there can in rw g.busy g.under.has_one

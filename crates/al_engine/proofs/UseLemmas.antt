@@ -219,7 +219,7 @@ module _ (terms : Terms) (p : Parts) (s : ℕ) (t : Session) (x : ℕ) (statemen
         }
 
 -- a statement that uses a table, in the hand of an open transaction
-pub uses_of : (terms : Terms) (p : Parts) (s : ℕ) (t : Session) (x : ℕ) (statement : Statement) (name : List ℕ) → IsKept terms p → slice_get p.sessions s ≡ Some t → can_go_on (past_of p.journal) s ≡ true → t.xact ≡ Some x → statement_of terms t.hand 0 ≡ Some statement → used_name statement ≡ Some name → Uses terms p s t x statement name (mode_of statement)
+pub uses_of : (terms : Terms) (p : Parts) (s : ℕ) (t : Session) (x : ℕ) (statement : Statement) (name : List ℕ) → IsKept terms p → slice_get p.sessions s ≡ Some t → can_go_on (past_of p.journal) s ≡ true → t.xact ≡ Some x → statement_of terms t.hand t.done ≡ Some statement → used_name statement ≡ Some name → Uses terms p s t x statement name (mode_of statement)
 uses_of terms p s t x (statements.Insert table values) name kept seat goes in_xact is names =
     let same : table ≡ name = cc in
     record { kept = kept; seat = seat; goes = goes; in_xact = in_xact; statement_is = is; other = λ h. h; placed = refl; needs = λ db. rw same refl; names = λ db. rw same refl }

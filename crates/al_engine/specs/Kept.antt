@@ -1,5 +1,5 @@
 -- What the machine keeps true of its parts.
-use Rattle.std.specs.Prelude.{◌≡◌, ℕ, ◌+◌, ◌<◌, ◌≤◌, false, List, ◌∷◌, length, slice_get, Bool, cond, nat_le, Option, Some, None, IsSome, ◌==◌, true}
+use Rattle.std.specs.Prelude.{◌≡◌, ℕ, ◌+◌, ◌^◌, ◌<◌, ◌≤◌, false, List, ◌∷◌, length, slice_get, Bool, cond, nat_le, Option, Some, None, IsSome, ◌==◌, true}
 use Rattle.al_history.specs.declared.statement.Terms.{Terms}
 use Rattle.al_history.specs.Kept.{Kept}
 use Rattle.al_history.specs.Past.{Past, past_of}
@@ -24,9 +24,9 @@ use Rattle.al_history.specs.Need.{lacking}
 use Rattle.al_history.specs.Waits.{can_go_on}
 use Rattle.al_history.specs.Weight.{weight}
 use Rattle.al_history.specs.Rules.{Answers}
-use Rattle.al_engine.specs.Ran.{AreSingle, IsAborted}
+use Rattle.al_engine.specs.Ran.{IsAborted}
 use Rattle.al_engine.specs.LockTie.{IsTied, WantsSo, OthersWant}
-use Rattle.al_engine.specs.Sessions.{IsMirror, IsOutlined, state_of, light}
+use Rattle.al_engine.specs.Sessions.{IsMirror, IsOutlined, script_length, state_of, light}
 use Rattle.al_engine.specs.Stored.{all_kept, TellsCommitted}
 
 -- The parts of a machine, as contracts see them.
@@ -58,7 +58,6 @@ pub record IsSound (terms : Terms) (p : Parts) (used : ℕ) : Type 0 where
   pub queues : IsSettled p.locks.locks
   pub weighed : p.weight ≡ weight (past_of p.journal)
   pub reserved : light p.sessions + length p.locks.locks.waiting ≤ p.journal.room + used
-  pub single : AreSingle terms.scripts
 
 -- In the middle of a call for the session s, also the records of the other sessions are what they stand for.
 pub record IsAmid (terms : Terms) (p : Parts) (s used : ℕ) : Type 0 where
@@ -112,11 +111,12 @@ pub record CanBeDone (terms : Terms) (past : Past) (s : ℕ) (t : Session) (repl
   pub outline : IsOutlined (doing past s) (record t { wants = None })
   pub in_step : IsSome t.hand
   pub in_xact : IsSome t.xact
-  pub none_done : dones past s ≡ 0
+  pub dones_is : dones past s ≡ t.done
+  pub left_is : (block : ℕ) → t.hand ≡ Some block → t.done + t.left ≡ script_length terms block
+  pub few : t.done + t.left < 2 ^ 32
   pub none_refused : refused past s ≡ false
-  pub answers : Answers (statement_of terms t.hand 0) (acts_of past s) t.xact (state_of t.block) reply
+  pub answers : Answers (statement_of terms t.hand t.done) (acts_of past s) t.xact (state_of t.block) reply
   pub keeps_block : block_after reply (state_of t.block) ≡ state_of t.block
-  pub last : statement_of terms t.hand 1 ≡ None
 
 -- how many light entries a refusal finds used: the Cancel, where the step was cancelled
 abbrev pub used_by : Cause → ℕ

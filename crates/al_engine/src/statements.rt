@@ -211,7 +211,7 @@ pub fn create_table(
     requires seat { slice_get machine.old.sessions.items session ≡ Some seat }
     requires goes { can_go_on (past_in machine.old) session ≡ true }
     requires in_xact { seat.xact ≡ Some xact }
-    requires statement { statement_of terms.now seat.hand 0 ≡ Some (statements.CreateTable name.now columns.now) }
+    requires statement { statement_of terms.now seat.hand seat.done ≡ Some (statements.CreateTable name.now columns.now) }
     ensures kept { OnOk result (IsKept terms.now (parts_of machine.new)) }
     ensures went { IfOk result (λ refused. Went terms.now session (past_in machine.old) (past_in machine.new) refused (driver (past_in machine.old)) (IsLeast (past_in machine.old) session)) }
     ensures err { OnErr result (IsSame (parts_of machine.old) (parts_of machine.new)) }
@@ -356,7 +356,7 @@ pub fn use_table<L: Ledger>(
     requires seat { slice_get machine.old.sessions.items session ≡ Some seat }
     requires goes { can_go_on (past_in machine.old) session ≡ true }
     requires in_xact { seat.xact ≡ Some xact }
-    requires statement { statement_of terms.now seat.hand 0 ≡ Some statement.now }
+    requires statement { statement_of terms.now seat.hand seat.done ≡ Some statement.now }
     requires uses { IsSome (used_name statement.now) }
     ensures kept { OnOk result (IsKept terms.now (parts_of machine.new)) }
     ensures went { IfOk result (λ refused. Went terms.now session (past_in machine.old) (past_in machine.new) refused (driver (past_in machine.old)) (IsLeast (past_in machine.old) session)) }
