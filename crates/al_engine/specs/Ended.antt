@@ -1,5 +1,5 @@
 -- Where BEGIN, COMMIT or ROLLBACK can be done: its transaction is open, or has ended.
-use Rattle.std.specs.Prelude.{◌≡◌, ℕ, nat_lt, ◌+◌, ◌-◌, ◌^◌, ◌<◌, ◌≤◌, ◌∷◌, Bool, true, false, cond, Option, Some, None, slice_get}
+use Rattle.std.specs.Prelude.{◌≡◌, ℕ, nat_lt, ◌+◌, ◌-◌, ◌<◌, ◌≤◌, ◌∷◌, Bool, true, false, cond, Option, Some, None, slice_get}
 use Rattle.al_history.specs.declared.entry.Entry.TheVariants.{Done}
 use Rattle.al_history.specs.declared.entry.Reply.{Reply}
 use Rattle.al_history.specs.declared.entry.Reply.TheVariants as replies
@@ -15,7 +15,7 @@ use Rattle.al_history.proofs.Turns.{Tail}
 use Rattle.al_engine.specs.declared.sessions.Session.{Session}
 use Rattle.al_engine.specs.declared.sessions.Block.{Block}
 use Rattle.al_engine.specs.LockTie.{asks}
-use Rattle.al_engine.specs.Sessions.{script_length, state_of, light_of}
+use Rattle.al_engine.specs.Sessions.{IsCounted, state_of, light_of}
 use Rattle.al_engine.specs.Kept.{Parts, IsAmid}
 
 -- what the session is doing by then: the transaction that is open is no implicit one once the statement is done
@@ -24,13 +24,12 @@ pub record IsLast (terms : Terms) (past : Past) (s : ℕ) (seat : Session) (xact
   pub busy : hand past s ≡ Some block
   pub hand_is : seat.hand ≡ Some block
   pub dones_is : dones past s ≡ seat.done
-  pub left_is : seat.done + seat.left ≡ script_length terms block
-  pub few : seat.done + seat.left < 2 ^ 32
+  pub counted : IsCounted terms block seat.done seat.left
   pub unrefused : refused past s ≡ false
   pub xact_is : xact_of past s ≡ xact
   pub block_is : block_state past s ≡ state_of seat.block
   pub closed_is : closed past s ≡ seat.closed
-  pub none_left : if_no_block (block_after reply (state_of seat.block)) xact ≡ None
+  pub none_left : seat.left ≤ 1 → if_no_block (block_after reply (state_of seat.block)) xact ≡ None
 
 -- what is kept of it after its step
 abbrev pub stopped : Session → Option ℕ → Block → Session

@@ -1,5 +1,5 @@
 -- What the machine keeps true of its parts.
-use Rattle.std.specs.Prelude.{◌≡◌, ℕ, ◌+◌, ◌^◌, ◌<◌, ◌≤◌, false, List, ◌∷◌, length, slice_get, Bool, cond, nat_le, Option, Some, None, IsSome, ◌==◌, true}
+use Rattle.std.specs.Prelude.{◌≡◌, ℕ, ◌+◌, ◌<◌, ◌≤◌, false, List, ◌∷◌, length, slice_get, Bool, cond, nat_le, Option, Some, None, IsSome, ◌==◌, true}
 use Rattle.al_history.specs.declared.statement.Terms.{Terms}
 use Rattle.al_history.specs.Kept.{Kept}
 use Rattle.al_history.specs.Past.{Past, past_of}
@@ -7,7 +7,7 @@ use Rattle.al_history.specs.Hand.{hand, dones, refused, xact_of, look_of, acts_o
 use Rattle.al_history.specs.Locks.{Claim, grantable, is_settled}
 use Rattle.al_history.specs.Store.{store}
 use Rattle.al_history.specs.Tail.{owed, Follows}
-use Rattle.al_history.specs.Legal.{Legal}
+use Rattle.al_history.specs.Legal.{in_time, Legal}
 use Rattle.al_history.proofs.Doings.{doing}
 use Rattle.al_queue.specs.Locks.{Kept as KeptLocks}
 use Rattle.al_queue.specs.Settled.{IsSettled}
@@ -26,7 +26,7 @@ use Rattle.al_history.specs.Weight.{weight}
 use Rattle.al_history.specs.Rules.{Answers}
 use Rattle.al_engine.specs.Ran.{IsAborted}
 use Rattle.al_engine.specs.LockTie.{IsTied, WantsSo, OthersWant}
-use Rattle.al_engine.specs.Sessions.{IsMirror, IsOutlined, script_length, state_of, light}
+use Rattle.al_engine.specs.Sessions.{IsMirror, IsOutlined, IsCounted, state_of, light}
 use Rattle.al_engine.specs.Stored.{all_kept, TellsCommitted}
 
 -- The parts of a machine, as contracts see them.
@@ -112,11 +112,11 @@ pub record CanBeDone (terms : Terms) (past : Past) (s : ℕ) (t : Session) (repl
   pub in_step : IsSome t.hand
   pub in_xact : IsSome t.xact
   pub dones_is : dones past s ≡ t.done
-  pub left_is : (block : ℕ) → t.hand ≡ Some block → t.done + t.left ≡ script_length terms block
-  pub few : t.done + t.left < 2 ^ 32
+  pub counted : (block : ℕ) → t.hand ≡ Some block → IsCounted terms block t.done t.left
   pub none_refused : refused past s ≡ false
   pub answers : Answers (statement_of terms t.hand t.done) (acts_of past s) t.xact (state_of t.block) reply
   pub keeps_block : block_after reply (state_of t.block) ≡ state_of t.block
+  pub goes : can_go_on past s ≡ true
 
 -- how many light entries a refusal finds used: the Cancel, where the step was cancelled
 abbrev pub used_by : Cause → ℕ
@@ -133,6 +133,7 @@ pub record CanBeRefused (terms : Terms) (past : Past) (s : ℕ) (t : Session) (c
   pub first_true : cause_of terms past s ≡ Some cause
   pub settled : is_settled past ≡ true
   pub follows : Follows (owed terms past) (Refuse s cause)
+  pub timely : in_time (owed terms past) past s ≡ true
 
 -- the entries of a refusal: the Refuse, the Abort of an open transaction with the locks that it frees, and the End
 pub record IsRefused (old new : Past) (s : ℕ) (x : Option ℕ) (cause : Cause) : Type 0 where

@@ -42,16 +42,21 @@ length_at (Some block) = length_in block.script
 abbrev pub script_length : Terms → ℕ → ℕ
 script_length terms block = length_at (slice_get terms.scripts.blocks block)
 
+-- so many statements of the block are done, and so many aren't; only an empty script has none left
+pub record IsCounted (terms : Terms) (block done left : ℕ) : Type 0 where
+  pub all : done + left ≡ script_length terms block
+  pub few : done + left < 2 ^ 32
+  pub some : left ≡ 0 → done ≡ 0
+
 -- A session's step in hand is under way: so many statements of its block are done, and its statement in hand has done nothing yet.
 -- Between two calls only a CREATE TABLE has looked: it waits.
-pub record IsUnderway (terms : Terms) (d : Doing) (block : ℕ) (t : Session) : Type 0 where
-  pub dones_is : d.dones ≡ t.done
-  pub left_is : t.done + t.left ≡ script_length terms block
-  pub few : t.done + t.left < 2 ^ 32
+pub record IsUnderway (terms : Terms) (d : Doing) (block done left : ℕ) (looked : Bool) : Type 0 where
+  pub dones_is : d.dones ≡ done
+  pub counted : IsCounted terms block done left
   pub none_refused : d.refused ≡ false
   pub no_acts : d.acts ≡ []
-  pub look_is : is_some d.look ≡ t.looked
-  pub only_creates : t.looked ≡ true → MakesTable (statement_of terms (Some block) t.done)
+  pub look_is : is_some d.look ≡ looked
+  pub only_creates : looked ≡ true → MakesTable (statement_of terms (Some block) done)
 
 -- what a session is doing by the journal, but for its step, is what is kept of it
 pub record IsOutlined (d : Doing) (t : Session) : Type 0 where
@@ -64,7 +69,7 @@ pub record IsOutlined (d : Doing) (t : Session) : Type 0 where
 -- what a session is doing by the journal is what is kept of it
 pub record IsMirror (terms : Terms) (d : Doing) (t : Session) : Type 0 where
   pub outline : IsOutlined d t
-  pub underway : (block : ℕ) → t.hand ≡ Some block → IsUnderway terms d block t
+  pub underway : (block : ℕ) → t.hand ≡ Some block → IsUnderway terms d block t.done t.left t.looked
 
 -- the open transaction of a session
 abbrev pub xact_in : List Session → ℕ → ℕ

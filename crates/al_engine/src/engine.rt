@@ -87,13 +87,14 @@ impl Engine {
     {
         let _ = alloc;
         let at = session as usize;
-        let statements = statements_of(&self.terms, block)?;
-        let Ok(given) = given(self.machine.sessions[at], block, statements) else {
+        let seat = self.machine.sessions[at];
+        if seat.hand.is_some() {
             return Err(Cant::Why(Busy));
-        };
+        }
+        let statements = statements_of(&self.terms, block)?;
         reserve_step(&mut self.machine.journal, statements)?;
         self.machine.journal.note(Entry::Give { session, block });
-        self.machine.sessions[at] = given;
+        self.machine.sessions[at] = given(seat, block, statements);
         Ok(())
     }
 

@@ -2,7 +2,6 @@
 ghost use Rattle.std.specs.Prelude.{◌≡◌, None, Some, false, IsSome, IfOk, OnOk, OnErr, IfSome, IfNone, length, replicate};
 ghost use Rattle.al_engine.specs.Sessions.{idle_session, is_open_in, is_held_up, IsFirstReady, AreStuck};
 
-use crate::told::Busy;
 use al_history::Want;
 use al_values::NoMemory;
 use std::alloc::Global;
@@ -62,23 +61,18 @@ pub fn idle_sessions(alloc: Global, count: u32) -> Result<Vec<Session>, NoMemory
     Ok(sessions)
 }
 
-/// The session with this block, of so many statements, as its step in hand, unless it has one already.
-pub fn given(seat: Session, block: u32, statements: u32) -> Result<Session, Busy>
-    ensures ok { IfOk result (λ given. given ≡ record seat { hand = Some block; done = 0; left = statements; looked = false; wants = None }) }
-    ensures idle { OnOk result (seat.hand ≡ None) }
-    ensures busy { OnErr result (IsSome seat.hand) }
+/// The session with this block, of so many statements, as its step in hand.
+pub fn given(seat: Session, block: u32, statements: u32) -> Session
+    ensures { result ≡ record seat { hand = Some block; done = 0; left = statements; looked = false; wants = None } }
 {
-    if seat.hand.is_some() {
-        return Err(Busy);
-    }
-    Ok(Session {
+    Session {
         hand: Some(block),
         done: 0,
         left: statements,
         looked: false,
         wants: None,
         ..seat
-    })
+    }
 }
 
 /// Whether somebody holds up what is wanted: a lock is always held up while it is waited for, since it is granted as soon as it can

@@ -285,7 +285,7 @@ fn pass(machine: &mut Machine, session: u32, seat: Session)
     requires few { seat.done + seat.left < 2 ^ 32 }
     ensures past { past_in machine.new ≡ cond (nat_lt 1 seat.left) (past_in machine.old) (End session ∷ past_in machine.old) }
     ensures sessions { machine.new.sessions.items ≡ slice_set machine.old.sessions.items session (passed seat) }
-    ensures room { machine.old.journal.room ≤ machine.new.journal.room + cond (nat_lt 1 seat.left) 0 1 }
+    ensures room { machine.new.journal.room + cond (nat_lt 1 seat.left) 0 1 ≡ machine.old.journal.room }
     ensures tables { machine.new.tables.items ≡ machine.old.tables.items }
     ensures locks { machine.new.locks ≡ machine.old.locks }
     ensures committed { machine.new.committed.items ≡ machine.old.committed.items }

@@ -313,3 +313,21 @@ tail_ends terms s old mid refused drove turn t comes in_turn =
       one_row = t.one_row;
       in_turn = λ its d. (in_turn, t.in_turn its d);
     }
+
+-- or goes on with the next statement
+pub tail_goes : (terms : Terms) (s : ℕ) (old new : Past) (drove : List Entry) (turn : Type 0) → Tail terms s old new false drove turn → Went terms s old new false drove turn
+tail_goes terms s old new drove turn t = record {
+  legal = t.legal;
+  extends = t.extends;
+  more = t.more;
+  hands = λ r other. t.hands r;
+  own = inr (t.hands s);
+  refused_ends = λ wrong. absurd (unrefused wrong);
+  closed_same = t.closed_same;
+  driven = t.driven;
+  failed = t.failed;
+  told = t.told;
+  left_is = t.left_is;
+  one_row = t.one_row;
+  in_turn = t.in_turn;
+}
