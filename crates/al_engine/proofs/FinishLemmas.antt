@@ -2,8 +2,10 @@
 use Rattle.std.proofs.Common.{◌≡◌, ℕ, ◌+◌, ◌<◌, ◌≤◌, List, [], ◌∷◌, length, refl, sym, ap, true, false, Bool, Option, Some, None, arith, ◌∙◌, inl, slice_get, slice_set}
 use Rattle.std.specs.Prelude.{IsSome, option_and_then}
 use Rattle.al_history.specs.declared.entry.Cause.{Cause}
+use Rattle.al_history.specs.declared.entry.Cause.TheVariants as causes
 use Rattle.al_history.specs.declared.entry.Entry.TheVariants.{End}
 use Rattle.al_history.specs.declared.statement.SqlFault.{SqlFault}
+use Rattle.al_history.specs.declared.statement.SqlFault.TheVariants as faults
 use Rattle.al_history.specs.declared.statement.Terms.{Terms}
 use Rattle.al_history.specs.Past.{Past, past_of}
 use Rattle.al_history.specs.Hand.{hand, fault_of, statement_of, implicit_of}
@@ -18,7 +20,7 @@ use Rattle.al_history.proofs.Pasts.{if_same}
 use Rattle.al_history.proofs.Turns.{Went, extends_by}
 use Rattle.al_engine.specs.declared.sessions.Session.{Session}
 use Rattle.al_engine.specs.Sessions.{IsMirror, light_of}
-use Rattle.al_engine.specs.Kept.{Parts, IsKept, CanBeRefused}
+use Rattle.al_engine.specs.Kept.{Parts, IsKept, CanBeRefused, used_by}
 use Rattle.al_engine.proofs.Amid.{amid_begins, amid_stops, still_end}
 use Rattle.al_engine.proofs.DoneLemmas.{step_three}
 use Rattle.al_engine.proofs.SessionLemmas.{light_at}
@@ -40,6 +42,11 @@ text_refused terms p s seat fault cause kept there can faulty is =
       follows = rw kept.clear.owed_is tt;
       timely = rw kept.clear.owed_is can;
     }
+
+-- which takes no more places than an End
+pub text_uses : (fault : SqlFault) (cause : Cause) → text_cause (Some fault) ≡ Some cause → used_by cause ≡ 0
+text_uses (faults.Syntax at) cause is = let same : causes.Syntax at ≡ cause = cc in rw (← same) refl
+text_uses (faults.NotInProfile at) cause is = let same : causes.NotInProfile at ≡ cause = cc in rw (← same) refl
 
 none_of : (o : Option ℕ) → ((x : ℕ) → o ≡ Some x → ⊥) → o ≡ None
 none_of None never = refl

@@ -43,7 +43,11 @@ returns-in-Outside-Some-clause-went c =
     c.commit.ensures.past c.commit.ensures.room c.commit.ensures.sessions c.commit.ensures.tables (ap (λ (kept : Kept). kept.sessions) c.commit.ensures.locks) c.commit.ensures.committed c.commit.ensures.settled c.commit.ensures.hands_on c.commit.ensures.weight c.end_step.ensures.past c.end_step.ensures.room c.end_step.ensures.sessions c.end_step.ensures.tables c.end_step.ensures.locks c.end_step.ensures.committed c.end_step.ensures.weight
 
 pub returns-then-seat-gt1-clause-kept : goal.returns-then-seat-gt1-clause-kept
-returns-then-seat-gt1-clause-kept c = ?
+returns-then-seat-gt1-clause-kept c =
+    let b : IsBusy c.args.seat = busy_by c.args.seat c.requires.done.in_step in
+    let more : 1 < c.args.seat.left = omega (arith, c.if-seat-gt1.true) in
+    let over = over_by_done c.args._terms.now (parts_of c.args.machine.now) c.args.session b.block c.args.seat c.args.reply c.requires.amid c.requires.clear c.requires.seat c.requires.done b.is (λ last. absurd (omega (arith, more))) in
+    rw c.next_statement.ensures (on_kept _ _ _ _ _ _ _ _ _ over more _ c.args.seat.block (sym c.requires.done.keeps_block) c.note.ensures.past c.note.ensures.room refl refl refl refl refl)
 
 pub returns-then-seat-gt1-clause-went : goal.returns-then-seat-gt1-clause-went
 returns-then-seat-gt1-clause-went c =
@@ -53,7 +57,12 @@ returns-then-seat-gt1-clause-went c =
     on_went _ _ _ _ _ _ _ _ _ over more _ c.note.ensures.past
 
 pub returns-in_default-clause-kept : goal.returns-in_default-clause-kept
-returns-in_default-clause-kept c = ?
+returns-in_default-clause-kept c =
+    let b : IsBusy c.args.seat = busy_by c.args.seat c.requires.done.in_step in
+    let last : c.args.seat.left ≤ 1 = omega (arith, c.if-seat-gt1.false) in
+    let within : if_no_block (state_of c.args.seat.block) c.args.seat.xact ≡ None = elim c.in_default.branch [ in_default-via-in-Outside+in_default w ↦ rw (w.in_default.is-0, w.in_default.is-1) refl | in_default-via-in_default w ↦ not_outside c.args.seat.block c.args.seat.xact w.in_default.not-Outside-0 ] in
+    let over = over_by_done c.args._terms.now (parts_of c.args.machine.now) c.args.session b.block c.args.seat c.args.reply c.requires.amid c.requires.clear c.requires.seat c.requires.done b.is (λ l. within) in
+    over_kept _ _ _ _ _ _ _ _ _ over last (record (parts_of c.args.machine.now) { journal = c.note.new.self }) (parts_of c.end_step-in_default.new.machine) c.args.seat.block (sym c.requires.done.keeps_block) c.note.ensures.past c.note.ensures.room refl refl refl refl refl c.end_step-in_default.ensures.past c.end_step-in_default.ensures.room c.end_step-in_default.ensures.sessions c.end_step-in_default.ensures.tables c.end_step-in_default.ensures.locks c.end_step-in_default.ensures.committed c.end_step-in_default.ensures.weight
 
 pub returns-in_default-clause-went : goal.returns-in_default-clause-went
 returns-in_default-clause-went c =
