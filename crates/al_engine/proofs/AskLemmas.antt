@@ -105,11 +105,11 @@ waiting_none past c none = by_test (is_waiting past c) refl where
 
 -- what is kept of the sessions stays, where it is what this one is doing still
 mirrors_stay : (terms : Terms) (past after : Past) (sessions : List Session) (s : ℕ) (t : Session) → slice_get sessions s ≡ Some t → ((r : ℕ) (u : Session) → slice_get sessions r ≡ Some u → IsMirror terms (doing past r) u) → ((r : ℕ) → (s == r) ≡ false → doing after r ≡ doing past r) → IsMirror terms (doing after s) t → (r : ℕ) (u : Session) → slice_get sessions r ≡ Some u → IsMirror terms (doing after r) u
-mirrors_stay terms past after sessions s t seat mirrors others own r u there = by_test (s == r) refl where
+mirrors_stay terms past after sessions s t state mirrors others own r u there = by_test (s == r) refl where
   by_test : (b : Bool) → (s == r) ≡ b → IsMirror terms (doing after r) u
   by_test true same =
       let one : s ≡ r = eqb-true s r same in
-      let two : ◌≡◌ {A = Option Session} (Some t) (Some u) = sym seat ∙ rw (← one) at there in
+      let two : ◌≡◌ {A = Option Session} (Some t) (Some u) = sym state ∙ rw (← one) at there in
       let three : t ≡ u = cc in
       rw (← one, ← three) own
   by_test false other = rw (others r other) (mirrors r u there)
@@ -130,7 +130,7 @@ module _ (terms : Terms) (p : Parts) (s : ℕ) (t : Session) (x : ℕ) (c : Clai
   now = past_of p.journal
 
   outline : IsOutlined (doing (past_of p.journal) s) t
-  outline = (k.kept.mirrors s t k.seat).outline
+  outline = (k.kept.mirrors s t k.state).outline
 
   by : IsXact (past_of p.journal) s x
   by = record { session = (xact_is terms (past_of p.journal) s x k.kept.sound.legal (outline.xact_is ∙ k.in_xact)).own; open_xact = outline.xact_is ∙ k.in_xact }
@@ -180,7 +180,7 @@ module _ (terms : Terms) (p : Parts) (s : ℕ) (t : Session) (x : ℕ) (c : Clai
   others_so e its r other = others_stay terms (past_of p.journal) s r k.kept.sound.legal other e its
 
   underway : (block : ℕ) → t.hand ≡ Some block → IsUnderway terms (doing (past_of p.journal) s) block t.done t.left t.looked
-  underway = (k.kept.mirrors s t k.seat).underway
+  underway = (k.kept.mirrors s t k.state).underway
 
   -- it got the lock
   module _ (q : Parts) (a : AskedSo q) (sessions : q.sessions ≡ p.sessions) (past_is : past_of q.journal ≡ Lock x c.table c.mode ∷ past_of p.journal) (can : is_grantable p.locks.locks (grant_of c) ≡ true) where
@@ -226,7 +226,7 @@ module _ (terms : Terms) (p : Parts) (s : ℕ) (t : Session) (x : ℕ) (c : Clai
         reserved = rw (sessions, got_waiting) (omega (arith, k.kept.sound.reserved, a.room));
       };
       wants_so = rw past_is (wants_locked (past_of p.journal) x c.table c.mode (waiting_lock terms (past_of p.journal) x c.table c.mode (lock_may, k.kept.sound.legal)) (λ d there other. k.kept.wants_so d there));
-      mirrors = λ r u there. rw past_is (mirrors_stay terms (past_of p.journal) (Lock x c.table c.mode ∷ past_of p.journal) p.sessions s t k.seat k.kept.mirrors (others_so (Lock x c.table c.mode) by) got_mirror r u (rw sessions at there));
+      mirrors = λ r u there. rw past_is (mirrors_stay terms (past_of p.journal) (Lock x c.table c.mode ∷ past_of p.journal) p.sessions s t k.state k.kept.mirrors (others_so (Lock x c.table c.mode) by) got_mirror r u (rw sessions at there));
       clear = rw past_is (record { owed_is = k.kept.clear.owed_is; settled = got_settled });
     }
 
@@ -273,12 +273,12 @@ module _ (terms : Terms) (p : Parts) (s : ℕ) (t : Session) (x : ℕ) (c : Clai
         beyond = λ r le. rw past_is (k.kept.sound.beyond r (rw (sessions, length_set p.sessions s (record t { wants = Some (wants.Table c.table c.mode) })) at le));
         stored = rw (a.tables, past_is) k.kept.sound.stored;
         tells = λ y. rw (a.committed, past_is) (k.kept.sound.tells y);
-        marked = λ r y u there own. rw a.committed (marked_set p.sessions s (length p.committed) (record t { wants = Some (wants.Table c.table c.mode) }) k.kept.sound.marked (λ z has. k.kept.sound.marked s z t k.seat has) r y u (rw sessions at there) own);
+        marked = λ r y u there own. rw a.committed (marked_set p.sessions s (length p.committed) (record t { wants = Some (wants.Table c.table c.mode) }) k.kept.sound.marked (λ z has. k.kept.sound.marked s z t k.state has) r y u (rw sessions at there) own);
         table_count = rw a.locks k.kept.sound.table_count;
         tied = rw past_is queued_tied;
         queues = a.settled k.kept.sound.queues;
         weighed = rw past_is (a.weighs ∙ queued_weighs);
-        reserved = rw sessions (omega (arith, k.kept.sound.reserved, a.room, queued_waiting, light_set p.sessions s t (record t { wants = Some (wants.Table c.table c.mode) }) k.seat));
+        reserved = rw sessions (omega (arith, k.kept.sound.reserved, a.room, queued_waiting, light_set p.sessions s t (record t { wants = Some (wants.Table c.table c.mode) }) k.state));
       };
       wants_so = rw past_is (wants_queued (past_of p.journal) x c (by.session ∙ sym k.own) (rw k.own none_asked) (λ d there other. k.kept.wants_so d there));
       mirrors = λ r u there. rw past_is (mirrors_set terms (past_of p.journal) (Wait x (wants.Table c.table c.mode) ∷ past_of p.journal) p.sessions s (record t { wants = Some (wants.Table c.table c.mode) }) (λ v w other is. k.kept.mirrors v w is) (others_so (Wait x (wants.Table c.table c.mode)) by) queued_mirror r u (rw sessions at there));

@@ -166,17 +166,17 @@ record HasLooked (terms : Terms) (p : Parts) (s : ℕ) (t : Session) (x : ℕ) (
   weighs_so : p.weight + cond t.looked 0 1 ≡ weight past
   more : length (past_of p.journal) ≤ length past
 
-module _ (terms : Terms) (p : Parts) (s : ℕ) (t : Session) (x : ℕ) (name : List ℕ) (columns : List (List ℕ)) (kept : IsKept terms p) (seat : slice_get p.sessions s ≡ Some t) (goes_on : can_go_on (past_of p.journal) s ≡ true) (in_xact : t.xact ≡ Some x) (statement_is : statement_of terms t.hand t.done ≡ Some (statements.CreateTable name columns)) where
+module _ (terms : Terms) (p : Parts) (s : ℕ) (t : Session) (x : ℕ) (name : List ℕ) (columns : List (List ℕ)) (kept : IsKept terms p) (state : slice_get p.sessions s ≡ Some t) (goes_on : can_go_on (past_of p.journal) s ≡ true) (in_xact : t.xact ≡ Some x) (statement_is : statement_of terms t.hand t.done ≡ Some (statements.CreateTable name columns)) where
   -- before its Look it lacks no lock, so that the limit of the journal alone can refuse it
   before_so : t.looked ≡ false → cause_at terms (past_of p.journal) x (statements.CreateTable name columns) [] None ≡ over_by terms.weight p.weight 1
   before_so before =
-      let w = works_first terms p s t x (statements.CreateTable name columns) kept seat in_xact statement_is before in
+      let w = works_first terms p s t x (statements.CreateTable name columns) kept state in_xact statement_is before in
       let none : lacking terms (past_of p.journal) x ≡ None = lacking_is terms (past_of p.journal) s (at_work t x None) w.legal w.doing_is w.settled x w.by ∙ lacking_so terms (past_of p.journal) s t x (statements.CreateTable name columns) None w in
       ap (λ (lacks : Option Claim). limit_cause terms (past_of p.journal) x (weight_before (past_of p.journal) true lacks)) none ∙ (limit_so terms (past_of p.journal) s t x (statements.CreateTable name columns) None w (goes_unblocked (past_of p.journal) s goes_on) (Some 1) ∙ rw kept.sound.weighed refl)
 
   looked_just : t.looked ≡ false → over_by terms.weight p.weight 1 ≡ None → HasLooked terms p s t x name columns (Look x ∷ past_of p.journal)
   looked_just before fits =
-      let w = works_first terms p s t x (statements.CreateTable name columns) kept seat in_xact statement_is before in
+      let w = works_first terms p s t x (statements.CreateTable name columns) kept state in_xact statement_is before in
       let comes : MayCome terms (past_of p.journal) (Look x) = look_may terms (past_of p.journal) s t x (statements.CreateTable name columns) w refl refl (before_so before ∙ fits) goes_on in
       let after = looks terms (past_of p.journal) s t x (statements.CreateTable name columns) w comes in
       record {
@@ -187,7 +187,7 @@ module _ (terms : Terms) (p : Parts) (s : ℕ) (t : Session) (x : ℕ) (name : L
         stage = stage_looks terms (past_of p.journal) s t x (statements.CreateTable name columns) w comes;
         held_same = refl;
         waiting_same = refl;
-        latest_so = latest_is terms p s t x (statements.CreateTable name columns) kept seat in_xact statement_is;
+        latest_so = latest_is terms p s t x (statements.CreateTable name columns) kept state in_xact statement_is;
         taken_so = sym (taker_is terms (Look x ∷ past_of p.journal) p.tables x (xacts_in p.sessions) name after.legal kept.sound.stored (among_open terms (Look x ∷ past_of p.journal) (xacts_in p.sessions) after.legal (xacts_so terms p kept)));
         store_so = kept.sound.stored;
         weighs_so = rw (before, kept.sound.weighed) refl;
@@ -195,7 +195,7 @@ module _ (terms : Terms) (p : Parts) (s : ℕ) (t : Session) (x : ℕ) (name : L
       }
 
   looked_before : t.looked ≡ true → HasLooked terms p s t x name columns (past_of p.journal)
-  looked_before before = by_look (doing (past_of p.journal) s).look (look_is terms p s t x (statements.CreateTable name columns) kept seat in_xact statement_is ∙ before) (works terms p s t x (statements.CreateTable name columns) kept seat in_xact statement_is) where
+  looked_before before = by_look (doing (past_of p.journal) s).look (look_is terms p s t x (statements.CreateTable name columns) kept state in_xact statement_is ∙ before) (works terms p s t x (statements.CreateTable name columns) kept state in_xact statement_is) where
     by_look : (o : Option Past) → is_some o ≡ true → Works terms (past_of p.journal) s t x (statements.CreateTable name columns) o → HasLooked terms p s t x name columns (past_of p.journal)
     by_look None some w = absurd cc
     by_look (Some look) some w = record {
@@ -206,7 +206,7 @@ module _ (terms : Terms) (p : Parts) (s : ℕ) (t : Session) (x : ℕ) (name : L
       stage = stage_begins terms s (past_of p.journal) kept.sound.legal kept.clear.settled kept.clear.owed_is;
       held_same = refl;
       waiting_same = refl;
-      latest_so = latest_is terms p s t x (statements.CreateTable name columns) kept seat in_xact statement_is;
+      latest_so = latest_is terms p s t x (statements.CreateTable name columns) kept state in_xact statement_is;
       taken_so = sym (taker_is terms (past_of p.journal) p.tables x (xacts_in p.sessions) name kept.sound.legal kept.sound.stored (among_open terms (past_of p.journal) (xacts_in p.sessions) kept.sound.legal (xacts_so terms p kept)));
       store_so = kept.sound.stored;
       weighs_so = rw (before, kept.sound.weighed) (omega arith);
@@ -225,7 +225,7 @@ module _ (terms : Terms) (p : Parts) (s : ℕ) (t : Session) (x : ℕ) (name : L
   look_refused cause is = by_looked t.looked refl is where
     by_looked : (b : Bool) → t.looked ≡ b → Some cause ≡ cond b None (over_by terms.weight p.weight 1) → CanBeRefused terms (past_of p.journal) s t cause
     by_looked true before is = absurd cc
-    by_looked false before is = can_be_refused terms (past_of p.journal) s t x (statements.CreateTable name columns) None (works_first terms p s t x (statements.CreateTable name columns) kept seat in_xact statement_is before) goes_on cause (before_so before ∙ sym is)
+    by_looked false before is = can_be_refused terms (past_of p.journal) s t x (statements.CreateTable name columns) None (works_first terms p s t x (statements.CreateTable name columns) kept state in_xact statement_is before) goes_on cause (before_so before ∙ sym is)
 
   pub look_amid : (cause : Cause) → Some cause ≡ cond t.looked None (over_by terms.weight p.weight 1) → IsAmid terms p s (used_by cause)
   look_amid cause is = by_looked t.looked is where
@@ -309,19 +309,19 @@ module _ (terms : Terms) (p : Parts) (s : ℕ) (t : Session) (x : ℕ) (name : L
         others_want c there apart = ap (λ (d : Doing). d.wants) (h.stage.others c.session (turn c.session s apart)) ∙ kept.wants_so c (rw h.waiting_same at there)
 
       waits_kept : (q : Parts) → slice_get p.sessions s ≡ Some t → asks s (waiting (past_of p.journal)) ≡ false → q.sessions ≡ slice_set p.sessions s (record t { looked = true; wants = Some (wants.Ends other) }) → q.tables ≡ p.tables → q.locks ≡ p.locks → q.committed ≡ p.committed → p.journal.room ≤ q.journal.room → q.weight ≡ p.weight + cond t.looked 0 1 + 2 → past_of q.journal ≡ Wait x (wants.Ends other) ∷ past → IsKept terms q
-      waits_kept q seat none sessions tables locks committed room weighed past_is = record {
+      waits_kept q state none sessions tables locks committed room weighed past_is = record {
         sound = record {
           legal = rw past_is (end_may, h.works.legal);
           count = rw sessions (length_set p.sessions s (record t { looked = true; wants = Some (wants.Ends other) }) ∙ kept.sound.count);
           beyond = λ r le. rw past_is (h.stage.hands r ∙ kept.sound.beyond r (rw (sessions, length_set p.sessions s (record t { looked = true; wants = Some (wants.Ends other) })) at le));
           stored = rw (tables, past_is) h.store_so;
           tells = λ y. rw (committed, past_is, h.stage.fates y) (kept.sound.tells y);
-          marked = λ r y u there own. rw committed (marked_set p.sessions s (length p.committed) (record t { looked = true; wants = Some (wants.Ends other) }) kept.sound.marked (λ z has. kept.sound.marked s z t seat has) r y u (rw sessions at there) own);
+          marked = λ r y u there own. rw committed (marked_set p.sessions s (length p.committed) (record t { looked = true; wants = Some (wants.Ends other) }) kept.sound.marked (λ z has. kept.sound.marked s z t state has) r y u (rw sessions at there) own);
           table_count = rw locks kept.sound.table_count;
           tied = rw (locks, past_is) (record { waits = rw h.waiting_same kept.sound.tied.waits; holds = λ test. rw h.held_same (kept.sound.tied.holds test); apart = rw h.waiting_same kept.sound.tied.apart });
           queues = rw locks kept.sound.queues;
           weighed = rw past_is (weighed ∙ rw h.weighs_so refl);
-          reserved = rw (sessions, locks) (omega (arith, kept.sound.reserved, room, light_set p.sessions s t (record t { looked = true; wants = Some (wants.Ends other) }) seat));
+          reserved = rw (sessions, locks) (omega (arith, kept.sound.reserved, room, light_set p.sessions s t (record t { looked = true; wants = Some (wants.Ends other) }) state));
         };
         wants_so = rw past_is (waits_want none);
         mirrors = λ r u there. rw past_is (mirrors_set terms (past_of p.journal) (Wait x (wants.Ends other) ∷ past) p.sessions s (record t { looked = true; wants = Some (wants.Ends other) }) (λ v w apart is. kept.mirrors v w is) (λ v apart. others_stay terms past s v h.works.legal apart (Wait x (wants.Ends other)) h.works.by ∙ h.stage.others v apart) waits_mirror r u (rw sessions at there));
@@ -355,9 +355,9 @@ look_room terms p true kept = omega (arith, weighs terms (past_of p.journal) kep
 look_room terms p false kept = omega (arith, weighs terms (past_of p.journal) kept.sound.legal, kept.sound.weighed)
 
 -- the statement, in the hand of an open transaction, where the journal has a place for its Look
-module _ (terms : Terms) (p : Parts) (s : ℕ) (t : Session) (x : ℕ) (name : List ℕ) (columns : List (List ℕ)) (kept : IsKept terms p) (seat : slice_get p.sessions s ≡ Some t) (goes_on : can_go_on (past_of p.journal) s ≡ true) (in_xact : t.xact ≡ Some x) (statement_is : statement_of terms t.hand t.done ≡ Some (statements.CreateTable name columns)) (fits : cond t.looked None (over_by terms.weight p.weight 1) ≡ None) where
+module _ (terms : Terms) (p : Parts) (s : ℕ) (t : Session) (x : ℕ) (name : List ℕ) (columns : List (List ℕ)) (kept : IsKept terms p) (state : slice_get p.sessions s ≡ Some t) (goes_on : can_go_on (past_of p.journal) s ≡ true) (in_xact : t.xact ≡ Some x) (statement_is : statement_of terms t.hand t.done ≡ Some (statements.CreateTable name columns)) (fits : cond t.looked None (over_by terms.weight p.weight 1) ≡ None) where
   abbrev now_looked : HasLooked terms p s t x name columns (look_past t.looked x (past_of p.journal))
-  now_looked = has_looked terms p s t x name columns kept seat goes_on in_xact statement_is fits
+  now_looked = has_looked terms p s t x name columns kept state goes_on in_xact statement_is fits
 
   -- what it leaves as it was
   create_stays : (q : Parts) (past : Past) → past_of q.journal ≡ past → q.sessions ≡ p.sessions → q.locks ≡ p.locks → q.committed ≡ p.committed → p.journal.room ≤ q.journal.room → q.weight ≡ weight past → held past ≡ held (look_past t.looked x (past_of p.journal)) → waiting past ≡ waiting (look_past t.looked x (past_of p.journal)) → StaysBut p q
@@ -371,7 +371,7 @@ module _ (terms : Terms) (p : Parts) (s : ℕ) (t : Session) (x : ℕ) (name : L
     create_makes number q untaken place past_is room weighed sessions tables locks committed = makes terms p s t x name columns (look_past t.looked x (past_of p.journal)) kept now_looked free number q untaken place (create_stays q _ past_is sessions locks committed room (weighed ∙ rw (now_looked.weighs_so, shape_length columns) refl) refl refl) tables past_is
 
     pub create_waits : (other : ℕ) (q : Parts) → taker_in p x name ≡ Some other → past_of q.journal ≡ Wait x (wants.Ends other) ∷ look_past t.looked x (past_of p.journal) → p.journal.room ≤ q.journal.room → q.weight ≡ p.weight + cond t.looked 0 1 + 2 → q.sessions ≡ slice_set p.sessions s (record t { looked = true; wants = Some (wants.Ends other) }) → q.tables ≡ p.tables → q.locks ≡ p.locks → q.committed ≡ p.committed → IsKept terms q
-    create_waits other q taken past_is room weighed sessions tables locks committed = waits_kept terms p s t x name columns (look_past t.looked x (past_of p.journal)) kept now_looked free other taken q seat (asks_none terms p s t x (statements.CreateTable name columns) kept seat in_xact statement_is goes_on) sessions tables locks committed room weighed past_is
+    create_waits other q taken past_is room weighed sessions tables locks committed = waits_kept terms p s t x name columns (look_past t.looked x (past_of p.journal)) kept now_looked free other taken q state (asks_none terms p s t x (statements.CreateTable name columns) kept state in_xact statement_is goes_on) sessions tables locks committed room weighed past_is
 
     pub create_waits_went : (other : ℕ) (new : Past) → taker_in p x name ≡ Some other → new ≡ Wait x (wants.Ends other) ∷ look_past t.looked x (past_of p.journal) → Went terms s (past_of p.journal) new false (driver (past_of p.journal)) (IsLeast (past_of p.journal) s)
     create_waits_went other new taken is = rw is (waits_went terms p s t x name columns (look_past t.looked x (past_of p.journal)) kept now_looked free other taken)

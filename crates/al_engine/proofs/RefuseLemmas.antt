@@ -50,9 +50,9 @@ none_implicit (FailedBlock refuse) = refl
 pub record IsRefusing (terms : Terms) (old : Past) (m : Parts) (s : ℕ) (t : Session) (cause : Cause) : Type 0 where
   pub used : ℕ
   pub amid : IsAmid terms m s used
-  pub seat : Session
-  pub there : slice_get m.sessions s ≡ Some seat
-  pub fits : cond t.closed 0 1 + used + 1 ≤ light_of seat
+  pub now : Session
+  pub there : slice_get m.sessions s ≡ Some now
+  pub fits : cond t.closed 0 1 + used + 1 ≤ light_of now
   pub state : doing (past_of m.journal) s ≡ broken (doing old s) (length old) None
   pub settled : is_settled (past_of m.journal) ≡ true
   pub owes : owed terms (past_of m.journal) ≡ Some (End s)
@@ -89,7 +89,7 @@ module _ (terms : Terms) (p : Parts) (j : Kept) (s block : ℕ) (t : Session) (c
   refusing_free none = record {
     used = used_by cause + 1;
     amid = amid_refused;
-    seat = t;
+    now = t;
     there = there;
     fits = rw (none, busy) (omega (arith, used_few cause));
     state = state_refused ∙ rw none refl;
@@ -141,7 +141,7 @@ module _ (terms : Terms) (p : Parts) (j : Kept) (s block : ℕ) (t : Session) (c
       refusing_open = record {
         used = used_by cause + 1 + 1;
         amid = amid_aborts terms a m s (used_by cause + 1) x t amid_refused there by a_hands a_room a_woke a_tables a_count a_settled a_weight abort_may a_noted a_committed;
-        seat = calmed calms t;
+        now = calmed calms t;
         there = rw a_woke (woken_get m.locks.locks.granted p.sessions s ∙ rw there refl);
         fits = rw (own, busy) (omega (arith, used_few cause));
         state = state_aborted;
@@ -158,26 +158,26 @@ module _ (terms : Terms) (p : Parts) (j : Kept) (s block : ℕ) (t : Session) (c
 -- ---- the step ends
 
 pub refusing_room : (terms : Terms) (old : Past) (m : Parts) (s : ℕ) (t : Session) (cause : Cause) → IsRefusing terms old m s t cause → 0 < m.journal.room
-refusing_room terms old m s t cause r = omega (arith, r.fits, light_at m.sessions s r.seat r.there, r.amid.sound.reserved)
+refusing_room terms old m s t cause r = omega (arith, r.fits, light_at m.sessions s r.now r.there, r.amid.sound.reserved)
 
 -- its record then
-abbrev pub refused_seat : Session → Block → Session
-refused_seat t b = record t { hand = None; xact = None; block = b; looked = false; wants = None }
+abbrev pub refused_state : Session → Block → Session
+refused_state t b = record t { hand = None; xact = None; block = b; looked = false; wants = None }
 
-module _ (terms : Terms) (old : Past) (m q : Parts) (s block : ℕ) (t : Session) (cause : Cause) (b : Block) (r : IsRefusing terms old m s t cause) (can : CanBeRefused terms old s t cause) (busy : t.hand ≡ Some block) (fails : state_of b ≡ failed_at (length old) (state_of t.block)) (e_noted : past_of q.journal ≡ End s ∷ past_of m.journal) (e_room : q.journal.room + 1 ≡ m.journal.room) (e_set : q.sessions ≡ slice_set m.sessions s (refused_seat t b)) (e_tables : q.tables ≡ m.tables) (e_locks : q.locks ≡ m.locks) (e_committed : q.committed ≡ m.committed) (e_weight : q.weight ≡ m.weight) where
+module _ (terms : Terms) (old : Past) (m q : Parts) (s block : ℕ) (t : Session) (cause : Cause) (b : Block) (r : IsRefusing terms old m s t cause) (can : CanBeRefused terms old s t cause) (busy : t.hand ≡ Some block) (fails : state_of b ≡ failed_at (length old) (state_of t.block)) (e_noted : past_of q.journal ≡ End s ∷ past_of m.journal) (e_room : q.journal.room + 1 ≡ m.journal.room) (e_set : q.sessions ≡ slice_set m.sessions s (refused_state t b)) (e_tables : q.tables ≡ m.tables) (e_locks : q.locks ≡ m.locks) (e_committed : q.committed ≡ m.committed) (e_weight : q.weight ≡ m.weight) where
   ends_may : MayCome terms (past_of m.journal) (End s)
   ends_may = comes_end terms (past_of m.journal) s (broken (doing old s) (length old) None) r.amid.sound.legal r.state r.settled block (can.hand_is ∙ busy) (inr refl) (none_implicit (failed_at (length old) (block_state old s))) (rw r.owes refl) (rw r.owes refl)
 
-  own_mirror : IsMirror terms (doing (End s ∷ past_of m.journal) s) (refused_seat t b)
+  own_mirror : IsMirror terms (doing (End s ∷ past_of m.journal) s) (refused_state t b)
   own_mirror =
       let state : doing (End s ∷ past_of m.journal) s ≡ moved (past_of m.journal) (End s) (broken (doing old s) (length old) None) = own_moves (past_of m.journal) s (End s) refl ∙ ap (λ (d : Doing). moved (past_of m.journal) (End s) d) r.state in
-      subst (λ (d : Doing). IsMirror terms d (refused_seat t b)) (sym state) (record {
+      subst (λ (d : Doing). IsMirror terms d (refused_state t b)) (sym state) (record {
         outline = record { hand_is = refl; xact_is = refl; block_is = rw can.block_is (sym fails); closed_is = can.closed_is; wants_is = refl };
         underway = λ block busy. absurd cc;
       })
 
   pub refused_kept : IsKept terms q
-  refused_kept = amid_stops terms m q s r.used r.seat (refused_seat t b) (End s) r.amid r.there (still_end s) refl ends_may (unasked_idle terms (past_of m.journal) s r.amid.sound.legal (ap (λ (d : Doing). d.xact) r.state)) r.settled refl own_mirror (λ y its. absurd cc) (omega (arith, r.fits)) e_noted e_room e_set e_tables e_locks e_committed e_weight
+  refused_kept = amid_stops terms m q s r.used r.now (refused_state t b) (End s) r.amid r.there (still_end s) refl ends_may (unasked_idle terms (past_of m.journal) s r.amid.sound.legal (ap (λ (d : Doing). d.xact) r.state)) r.settled refl own_mirror (λ y its. absurd cc) (omega (arith, r.fits)) e_noted e_room e_set e_tables e_locks e_committed e_weight
 
   pub refused_exact : IsRefused old (past_of q.journal) s t.xact cause
   refused_exact = record { aborted = past_of m.journal; is_aborted = r.aborted; is = e_noted }

@@ -68,9 +68,9 @@ block_clear past s OpenBlock statement is never = refl
 block_clear past s (FailedBlock r) statement is never = absurd (never r is)
 
 -- between two calls
-module _ (terms : Terms) (p : Parts) (s : ℕ) (t : Session) (x : ℕ) (statement : Statement) (kept : IsKept terms p) (seat : slice_get p.sessions s ≡ Some t) (in_xact : t.xact ≡ Some x) (statement_is : statement_of terms t.hand t.done ≡ Some statement) where
+module _ (terms : Terms) (p : Parts) (s : ℕ) (t : Session) (x : ℕ) (statement : Statement) (kept : IsKept terms p) (state : slice_get p.sessions s ≡ Some t) (in_xact : t.xact ≡ Some x) (statement_is : statement_of terms t.hand t.done ≡ Some statement) where
   mirror : IsMirror terms (doing (past_of p.journal) s) t
-  mirror = kept.mirrors s t seat
+  mirror = kept.mirrors s t state
 
   pub works_for : (o : Option ℕ) → t.hand ≡ o → Works terms (past_of p.journal) s t x statement (doing (past_of p.journal) s).look
   works_for None idle = absurd (let wrong : ◌≡◌ {A = Option Statement} None (Some statement) = rw idle at statement_is in cc)

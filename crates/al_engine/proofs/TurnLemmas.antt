@@ -95,11 +95,11 @@ given_there terms (e ∷ past) s block legal is = given_there terms past s block
 -- ---- a session that can go on
 
 -- what is known of it
-pub record IsGoing (terms : Terms) (past : Past) (s : ℕ) (seat : Session) : Type 0 where
+pub record IsGoing (terms : Terms) (past : Past) (s : ℕ) (state : Session) : Type 0 where
   pub block : ℕ
-  pub busy : seat.hand ≡ Some block
-  pub outline : IsOutlined (doing past s) seat
-  pub under : IsUnderway terms (doing past s) block seat.done seat.left seat.looked
+  pub busy : state.hand ≡ Some block
+  pub outline : IsOutlined (doing past s) state
+  pub under : IsUnderway terms (doing past s) block state.done state.left state.looked
   pub free : asks s (waiting past) ≡ false
 
 and_both : (a b : Bool) → (a && b) ≡ true → (a ≡ true) × (b ≡ true)
@@ -111,12 +111,12 @@ not_not : (b : Bool) → not b ≡ true → b ≡ false
 not_not true is = absurd cc
 not_not false is = refl
 
-pub going : (terms : Terms) (p : Parts) (s : ℕ) (seat : Session) → IsKept terms p → slice_get p.sessions s ≡ Some seat → can_go_on (past_of p.journal) s ≡ true → IsGoing terms (past_of p.journal) s seat
-going terms p s seat kept there goes =
-    let mirror : IsMirror terms (doing (past_of p.journal) s) seat = kept.mirrors s seat there in
+pub going : (terms : Terms) (p : Parts) (s : ℕ) (state : Session) → IsKept terms p → slice_get p.sessions s ≡ Some state → can_go_on (past_of p.journal) s ≡ true → IsGoing terms (past_of p.journal) s state
+going terms p s state kept there goes =
+    let mirror : IsMirror terms (doing (past_of p.journal) s) state = kept.mirrors s state there in
     let both = and_both (is_some (hand (past_of p.journal) s)) (not (is_blocked (past_of p.journal) s)) goes in
-    by_hand mirror seat.hand refl (rw mirror.outline.hand_is at both.0) (free_asks (past_of p.journal) s kept.wants_so kept.clear.settled (not_not (is_blocked (past_of p.journal) s) both.1)) where
-      by_hand : IsMirror terms (doing (past_of p.journal) s) seat → (o : Option ℕ) → seat.hand ≡ o → is_some o ≡ true → asks s (waiting (past_of p.journal)) ≡ false → IsGoing terms (past_of p.journal) s seat
+    by_hand mirror state.hand refl (rw mirror.outline.hand_is at both.0) (free_asks (past_of p.journal) s kept.wants_so kept.clear.settled (not_not (is_blocked (past_of p.journal) s) both.1)) where
+      by_hand : IsMirror terms (doing (past_of p.journal) s) state → (o : Option ℕ) → state.hand ≡ o → is_some o ≡ true → asks s (waiting (past_of p.journal)) ≡ false → IsGoing terms (past_of p.journal) s state
       by_hand mirror None busy some free = absurd cc
       by_hand mirror (Some block) busy some free = record { block = block; busy = busy; outline = mirror.outline; under = mirror.underway block busy; free = free }
 
@@ -131,10 +131,10 @@ reached : (committed : List Bool) (n : ℕ) → n ≤ length (committed ++ repli
 reached committed n = omega (arith, length-append committed (replicate (n - length committed) false), length-replicate (n - length committed) false)
 
 abbrev begun : ℕ → Session → Session
-begun x seat = record seat { xact = Some x; wants = None }
+begun x state = record state { xact = Some x; wants = None }
 
-light_begins : (x : ℕ) (seat : Session) (block : ℕ) → seat.hand ≡ Some block → seat.xact ≡ None → 0 < seat.left → light_of (begun x seat) + 1 ≡ light_of seat
-light_begins x seat block busy none some = rw (busy, none) (omega arith)
+light_begins : (x : ℕ) (state : Session) (block : ℕ) → state.hand ≡ Some block → state.xact ≡ None → 0 < state.left → light_of (begun x state) + 1 ≡ light_of state
+light_begins x state block busy none some = rw (busy, none) (omega arith)
 
 -- a statement that is in hand is left
 pub some_left : (terms : Terms) (block done left : ℕ) (statement : Statement) → IsCounted terms block done left → statement_of terms (Some block) done ≡ Some statement → 0 < left
@@ -144,32 +144,32 @@ starting : (state : BlockState) (o : Option Statement) → option_map (starts st
 starting state None is = absurd cc
 starting state (Some statement) is = (statement, refl)
 
-module _ (terms : Terms) (p : Parts) (s x : ℕ) (seat : Session) (kept : IsKept terms p) (there : slice_get p.sessions s ≡ Some seat) (can : can_go_on (past_of p.journal) s ≡ true) (needs : option_map (starts (state_of seat.block)) (statement_of terms seat.hand seat.done) ≡ Some true) (none_open : seat.xact ≡ None) where
+module _ (terms : Terms) (p : Parts) (s x : ℕ) (state : Session) (kept : IsKept terms p) (there : slice_get p.sessions s ≡ Some state) (can : can_go_on (past_of p.journal) s ≡ true) (needs : option_map (starts (state_of state.block)) (statement_of terms state.hand state.done) ≡ Some true) (none_open : state.xact ≡ None) where
   abbrev old : Past
   old = past_of p.journal
 
   abbrev e : Entry
   e = Start s levels.ReadCommitted
 
-  going_so : IsGoing terms old s seat
-  going_so = going terms p s seat kept there can
+  going_so : IsGoing terms old s state
+  going_so = going terms p s state kept there can
 
-  begins_some : 0 < seat.left
+  begins_some : 0 < state.left
   begins_some =
-      let g : IsGoing terms old s seat = going_so in
-      let there_is = starting (state_of seat.block) (statement_of terms seat.hand seat.done) needs in
-      some_left terms g.block seat.done seat.left there_is.0 g.under.counted (ap (λ (h : Option ℕ). statement_of terms h seat.done) (sym g.busy) ∙ there_is.1)
+      let g : IsGoing terms old s state = going_so in
+      let there_is = starting (state_of state.block) (statement_of terms state.hand state.done) needs in
+      some_left terms g.block state.done state.left there_is.0 g.under.counted (ap (λ (h : Option ℕ). statement_of terms h state.done) (sym g.busy) ∙ there_is.1)
 
   pub begins_room : 0 < p.journal.room
   begins_room =
-      let g : IsGoing terms old s seat = going_so in
-      let some : 0 < seat.left = begins_some in
+      let g : IsGoing terms old s state = going_so in
+      let some : 0 < state.left = begins_some in
       let reserved : light p.sessions + length p.locks.locks.waiting ≤ p.journal.room + 0 = kept.sound.reserved in
-      omega (arith, reserved, light_at p.sessions s seat there, light_begins x seat g.block g.busy none_open some)
+      omega (arith, reserved, light_at p.sessions s state there, light_begins x state g.block g.busy none_open some)
 
   start_comes : MayCome terms old e
   start_comes =
-      let g : IsGoing terms old s seat = going_so in
+      let g : IsGoing terms old s state = going_so in
       comes terms old kept.sound.legal kept.clear.settled e (record { statement = rw (g.outline.block_is, g.outline.hand_is, g.under.dones_is) needs; none_open = g.outline.xact_is ∙ none_open; read_committed = refl }) (rw kept.clear.owed_is tt) (rw kept.clear.owed_is can)
 
   own_begins : doing (e ∷ old) s ≡ moved old e (doing old s)
@@ -177,28 +177,28 @@ module _ (terms : Terms) (p : Parts) (s x : ℕ) (seat : Session) (kept : IsKept
 
   goes_then : can_go_on (e ∷ old) s ≡ true
   goes_then =
-      let g : IsGoing terms old s seat = going_so in
+      let g : IsGoing terms old s state = going_so in
       goes terms (e ∷ old) s (moved old e (doing old s)) (start_comes, kept.sound.legal) own_begins kept.clear.settled g.block (g.outline.hand_is ∙ g.busy) refl
 
   pub begins_went : (new : Past) → new ≡ e ∷ old → Went terms s old new false (driver old) (IsLeast old s)
   begins_went new noted = rw noted (stage_went terms s old (e ∷ old) 0 (stage_on terms s old old 0 0 e (stage_begins terms s old kept.sound.legal kept.clear.settled kept.clear.owed_is) (step_start s levels.ReadCommitted) refl start_comes kept.clear.settled refl goes_then (omega arith)) (omega arith) (omega arith))
 
-  module _ (q : Parts) (noted : past_of q.journal ≡ e ∷ old) (at : x ≡ length old) (room : q.journal.room + 1 ≡ p.journal.room) (sessions : q.sessions ≡ slice_set p.sessions s (begun x seat)) (tables : q.tables ≡ p.tables) (locks : q.locks ≡ p.locks) (marks : q.committed ≡ p.committed ++ replicate (x + 1 - length p.committed) false) (weight_same : q.weight ≡ p.weight) where
+  module _ (q : Parts) (noted : past_of q.journal ≡ e ∷ old) (at : x ≡ length old) (room : q.journal.room + 1 ≡ p.journal.room) (sessions : q.sessions ≡ slice_set p.sessions s (begun x state)) (tables : q.tables ≡ p.tables) (locks : q.locks ≡ p.locks) (marks : q.committed ≡ p.committed ++ replicate (x + 1 - length p.committed) false) (weight_same : q.weight ≡ p.weight) where
     length_so : length q.sessions ≡ length p.sessions
-    length_so = rw sessions (length_set p.sessions s (begun x seat))
+    length_so = rw sessions (length_set p.sessions s (begun x state))
 
     other_so : (r : ℕ) → length p.sessions ≤ r → (s == r) ≡ false
-    other_so r le = let within : s < length p.sessions = slice_get_within p.sessions s seat there in ne_eqb s r (λ (same : s ≡ r). omega arith)
+    other_so r le = let within : s < length p.sessions = slice_get_within p.sessions s state there in ne_eqb s r (λ (same : s ≡ r). omega arith)
 
     marked_so : (r y : ℕ) (t : Session) → slice_get q.sessions r ≡ Some t → t.xact ≡ Some y → y < length q.committed
-    marked_so r y t is own = by_place (got_set p.sessions s r (begun x seat) t (rw sessions at is)) where
+    marked_so r y t is own = by_place (got_set p.sessions s r (begun x state) t (rw sessions at is)) where
       far : x + 1 ≤ length q.committed
       far = rw marks (reached p.committed (x + 1))
 
       more : length p.committed ≤ length q.committed
       more = rw marks (omega (arith, length-append p.committed (replicate (x + 1 - length p.committed) false)))
 
-      by_place : ((s ≡ r) × (begun x seat ≡ t)) ⊎ (((s == r) ≡ false) × (slice_get p.sessions r ≡ Some t)) → y < length q.committed
+      by_place : ((s ≡ r) × (begun x state ≡ t)) ⊎ (((s == r) ≡ false) × (slice_get p.sessions r ≡ Some t)) → y < length q.committed
       by_place (inl here) =
           let its : Some x ≡ Some y = ap (λ (u : Session). u.xact) here.1 ∙ own in
           let same : x ≡ y = cc in
@@ -206,25 +206,25 @@ module _ (terms : Terms) (p : Parts) (s x : ℕ) (seat : Session) (kept : IsKept
       by_place (inr away) = omega (arith, more, kept.sound.marked r y t away.1 own)
 
     mirrors_so : (r : ℕ) (t : Session) → slice_get q.sessions r ≡ Some t → IsMirror terms (doing (e ∷ old) r) t
-    mirrors_so r t is = by_place (got_set p.sessions s r (begun x seat) t (rw sessions at is)) where
-      own : IsMirror terms (doing (e ∷ old) s) (begun x seat)
+    mirrors_so r t is = by_place (got_set p.sessions s r (begun x state) t (rw sessions at is)) where
+      own : IsMirror terms (doing (e ∷ old) s) (begun x state)
       own =
-          let was : IsMirror terms (doing old s) seat = kept.mirrors s seat there in
+          let was : IsMirror terms (doing old s) state = kept.mirrors s state there in
           rw (own_begins, at) (record {
             outline = record { hand_is = was.outline.hand_is; xact_is = refl; block_is = was.outline.block_is; closed_is = was.outline.closed_is; wants_is = refl };
-            underway = λ block busy. let u : IsUnderway terms (doing old s) block seat.done seat.left seat.looked = was.underway block busy in record { dones_is = u.dones_is; counted = u.counted; none_refused = u.none_refused; no_acts = u.no_acts; look_is = u.look_is; only_creates = u.only_creates };
+            underway = λ block busy. let u : IsUnderway terms (doing old s) block state.done state.left state.looked = was.underway block busy in record { dones_is = u.dones_is; counted = u.counted; none_refused = u.none_refused; no_acts = u.no_acts; look_is = u.look_is; only_creates = u.only_creates };
           })
 
-      by_place : ((s ≡ r) × (begun x seat ≡ t)) ⊎ (((s == r) ≡ false) × (slice_get p.sessions r ≡ Some t)) → IsMirror terms (doing (e ∷ old) r) t
+      by_place : ((s ≡ r) × (begun x state ≡ t)) ⊎ (((s == r) ≡ false) × (slice_get p.sessions r ≡ Some t)) → IsMirror terms (doing (e ∷ old) r) t
       by_place (inl here) = rw (← here.0, ← here.1) own
       by_place (inr away) = rw (others_stay terms old s r kept.sound.legal away.0 e refl) (kept.mirrors r t away.1)
 
     reserved_so : light q.sessions + length q.locks.locks.waiting ≤ q.journal.room + 0
     reserved_so =
-        let g : IsGoing terms old s seat = going_so in
+        let g : IsGoing terms old s state = going_so in
         let reserved : light p.sessions + length p.locks.locks.waiting ≤ p.journal.room + 0 = kept.sound.reserved in
-        let set : light q.sessions + light_of seat ≡ light p.sessions + light_of (begun x seat) = rw sessions (light_set p.sessions s seat (begun x seat) there) in
-        let less : light_of (begun x seat) + 1 ≡ light_of seat = light_begins x seat g.block g.busy none_open begins_some in
+        let set : light q.sessions + light_of state ≡ light p.sessions + light_of (begun x state) = rw sessions (light_set p.sessions s state (begun x state) there) in
+        let less : light_of (begun x state) + 1 ≡ light_of state = light_begins x state g.block g.busy none_open begins_some in
         rw locks (omega (arith, reserved, set, less, room))
 
     sound_so : IsSound terms q 0
@@ -244,7 +244,7 @@ module _ (terms : Terms) (p : Parts) (s x : ℕ) (seat : Session) (kept : IsKept
 
     pub begins_kept : IsKept terms q
     begins_kept =
-        let g : IsGoing terms old s seat = going_so in
+        let g : IsGoing terms old s state = going_so in
         record {
           sound = sound_so;
           wants_so = rw noted (wants_all (e ∷ old) s g.free (others_still old s e refl refl (λ r. refl) (λ c there other. kept.wants_so c there)));
@@ -255,8 +255,8 @@ module _ (terms : Terms) (p : Parts) (s x : ℕ) (seat : Session) (kept : IsKept
 -- ---- whose statement is in hand
 
 -- its step is of one of the blocks
-pub block_there : (terms : Terms) (p : Parts) (s : ℕ) (seat : Session) → IsKept terms p → slice_get p.sessions s ≡ Some seat → can_go_on (past_of p.journal) s ≡ true → IsSome (option_and_then (λ (block : ℕ). slice_get terms.scripts.blocks block) seat.hand)
-block_there terms p s seat kept there can =
-    let g : IsGoing terms (past_of p.journal) s seat = going terms p s seat kept there can in
+pub block_there : (terms : Terms) (p : Parts) (s : ℕ) (state : Session) → IsKept terms p → slice_get p.sessions s ≡ Some state → can_go_on (past_of p.journal) s ≡ true → IsSome (option_and_then (λ (block : ℕ). slice_get terms.scripts.blocks block) state.hand)
+block_there terms p s state kept there can =
+    let g : IsGoing terms (past_of p.journal) s state = going terms p s state kept there can in
     let busy : hand (past_of p.journal) s ≡ Some g.block = g.outline.hand_is ∙ g.busy in
     rw g.busy (given_there terms (past_of p.journal) s g.block kept.sound.legal busy)

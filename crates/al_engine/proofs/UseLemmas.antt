@@ -129,10 +129,10 @@ first_held claims c b is = rw is refl
 
 module _ (terms : Terms) (p : Parts) (s : ℕ) (t : Session) (x : ℕ) (statement : Statement) (name : List ℕ) (mode : Mode) (u : Uses terms p s t x statement name mode) where
   first_works : Works terms (past_of p.journal) s t x statement None
-  first_works = works_first terms p s t x statement u.kept u.seat u.in_xact u.statement_is (unlooked terms p s t x statement u.kept u.seat u.in_xact u.statement_is u.other)
+  first_works = works_first terms p s t x statement u.kept u.state u.in_xact u.statement_is (unlooked terms p s t x statement u.kept u.state u.in_xact u.statement_is u.other)
 
   named_so : (o : Option Table) → named (shown (seen_by (Some x) p.committed) (all_kept p.tables)) name ≡ o → named (latest terms (past_of p.journal) x) name ≡ o
-  named_so o is = ap (λ (db : Database). named db name) (latest_is terms p s t x statement u.kept u.seat u.in_xact u.statement_is) ∙ is
+  named_so o is = ap (λ (db : Database). named db name) (latest_is terms p s t x statement u.kept u.state u.in_xact u.statement_is) ∙ is
 
   -- it isn't there
   pub missing : named (shown (seen_by (Some x) p.committed) (all_kept p.tables)) name ≡ None → CanBeRefused terms (past_of p.journal) s t (causes.NoTable name)
@@ -171,7 +171,7 @@ module _ (terms : Terms) (p : Parts) (s : ℕ) (t : Session) (x : ℕ) (statemen
     pub lacks_lock : holds p.locks.locks s table.number mode ≡ false → Lacks terms p s t x (record { session = s; table = table.number; mode = mode })
     lacks_lock none = record {
       kept = u.kept;
-      seat = u.seat;
+      state = u.state;
       goes = u.goes;
       in_xact = u.in_xact;
       before_look = ap (λ (d : Doing). d.look) first_works.doing_is;
@@ -231,13 +231,13 @@ module _ (terms : Terms) (p : Parts) (s : ℕ) (t : Session) (x : ℕ) (statemen
 
 -- a statement that uses a table, in the hand of an open transaction
 pub uses_of : (terms : Terms) (p : Parts) (s : ℕ) (t : Session) (x : ℕ) (statement : Statement) (name : List ℕ) → IsKept terms p → slice_get p.sessions s ≡ Some t → can_go_on (past_of p.journal) s ≡ true → t.xact ≡ Some x → statement_of terms t.hand t.done ≡ Some statement → used_name statement ≡ Some name → Uses terms p s t x statement name (mode_of statement)
-uses_of terms p s t x (statements.Insert table values) name kept seat goes in_xact is names =
+uses_of terms p s t x (statements.Insert table values) name kept state goes in_xact is names =
     let same : table ≡ name = cc in
-    record { kept = kept; seat = seat; goes = goes; in_xact = in_xact; statement_is = is; other = λ h. h; placed = refl; needs = λ db. rw same refl; names = λ db. rw same refl }
-uses_of terms p s t x (statements.Select table) name kept seat goes in_xact is names =
+    record { kept = kept; state = state; goes = goes; in_xact = in_xact; statement_is = is; other = λ h. h; placed = refl; needs = λ db. rw same refl; names = λ db. rw same refl }
+uses_of terms p s t x (statements.Select table) name kept state goes in_xact is names =
     let same : table ≡ name = cc in
-    record { kept = kept; seat = seat; goes = goes; in_xact = in_xact; statement_is = is; other = λ h. h; placed = refl; needs = λ db. rw same refl; names = λ db. rw same refl }
-uses_of terms p s t x (statements.AddColumn table column) name kept seat goes in_xact is names =
+    record { kept = kept; state = state; goes = goes; in_xact = in_xact; statement_is = is; other = λ h. h; placed = refl; needs = λ db. rw same refl; names = λ db. rw same refl }
+uses_of terms p s t x (statements.AddColumn table column) name kept state goes in_xact is names =
     let same : table ≡ name = cc in
-    record { kept = kept; seat = seat; goes = goes; in_xact = in_xact; statement_is = is; other = λ h. h; placed = refl; needs = λ db. rw same refl; names = λ db. rw same refl }
-uses_of terms p s t x statement name kept seat goes in_xact is names = absurd cc
+    record { kept = kept; state = state; goes = goes; in_xact = in_xact; statement_is = is; other = λ h. h; placed = refl; needs = λ db. rw same refl; names = λ db. rw same refl }
+uses_of terms p s t x statement name kept state goes in_xact is names = absurd cc

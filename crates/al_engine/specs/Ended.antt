@@ -19,49 +19,49 @@ use Rattle.al_engine.specs.Sessions.{IsCounted, state_of, light_of}
 use Rattle.al_engine.specs.Kept.{Parts, IsAmid}
 
 -- what the session is doing by then: the transaction that is open is no implicit one once the statement is done
-pub record IsLast (terms : Terms) (past : Past) (s : ℕ) (seat : Session) (xact : Option ℕ) (reply : Reply) : Type 0 where
+pub record IsLast (terms : Terms) (past : Past) (s : ℕ) (state : Session) (xact : Option ℕ) (reply : Reply) : Type 0 where
   pub block : ℕ
   pub busy : hand past s ≡ Some block
-  pub hand_is : seat.hand ≡ Some block
-  pub dones_is : dones past s ≡ seat.done
-  pub counted : IsCounted terms block seat.done seat.left
+  pub hand_is : state.hand ≡ Some block
+  pub dones_is : dones past s ≡ state.done
+  pub counted : IsCounted terms block state.done state.left
   pub unrefused : refused past s ≡ false
   pub xact_is : xact_of past s ≡ xact
-  pub block_is : block_state past s ≡ state_of seat.block
-  pub closed_is : closed past s ≡ seat.closed
-  pub none_left : seat.left ≤ 1 → if_no_block (block_after reply (state_of seat.block)) xact ≡ None
+  pub block_is : block_state past s ≡ state_of state.block
+  pub closed_is : closed past s ≡ state.closed
+  pub none_left : state.left ≤ 1 → if_no_block (block_after reply (state_of state.block)) xact ≡ None
 
 -- what is kept of it after its step
 abbrev pub stopped : Session → Option ℕ → Block → Session
-stopped seat xact block = record { hand = None; done = seat.done; left = seat.left; xact = xact; block = block; looked = false; wants = None; closed = seat.closed }
+stopped state xact block = record { hand = None; done = state.done; left = state.left; xact = xact; block = block; looked = false; wants = None; closed = state.closed }
 
 -- what is kept of it where its step goes on with the next statement
 abbrev pub onward : Session → Option ℕ → Block → Session
-onward seat xact block = record { hand = seat.hand; done = seat.done + 1; left = seat.left - 1; xact = xact; block = block; looked = false; wants = None; closed = seat.closed }
+onward state xact block = record { hand = state.hand; done = state.done + 1; left = state.left - 1; xact = xact; block = block; looked = false; wants = None; closed = state.closed }
 
 -- what is kept of a session whose statement is done: its step goes on with the next one, or ends
 abbrev pub passed : Session → Session
-passed seat = cond (nat_lt 1 seat.left) (onward seat seat.xact seat.block) (record seat { hand = None; looked = false; wants = None })
+passed state = cond (nat_lt 1 state.left) (onward state state.xact state.block) (record state { hand = None; looked = false; wants = None })
 
 -- in the middle of a call that began at an old past, the statement can be done with this reply
-pub record IsOver (terms : Terms) (m : Parts) (s used : ℕ) (t seat : Session) (old : Past) (xact : Option ℕ) (reply : Reply) : Type 0 where
+pub record IsOver (terms : Terms) (m : Parts) (s used : ℕ) (t state : Session) (old : Past) (xact : Option ℕ) (reply : Reply) : Type 0 where
   pub amid : IsAmid terms m s used
   pub there : slice_get m.sessions s ≡ Some t
-  pub is_last : IsLast terms (past_of m.journal) s seat xact reply
+  pub is_last : IsLast terms (past_of m.journal) s state xact reply
   pub settled : is_settled (past_of m.journal) ≡ true
   pub unasked : asks s (waiting (past_of m.journal)) ≡ false
   pub comes : MayCome terms (past_of m.journal) (Done s reply)
   pub tail : Tail terms s old (Done s reply ∷ past_of m.journal) false (driver old) (IsLeast old s)
   pub its : (x : ℕ) → xact ≡ Some x → t.xact ≡ Some x
-  pub fits : (block : Block) → light_of (stopped seat xact block) + used + 2 ≤ light_of t
-  pub fits_on : (block : Block) → 1 < seat.left → light_of (onward seat xact block) + used + 1 ≤ light_of t
+  pub fits : (block : Block) → light_of (stopped state xact block) + used + 2 ≤ light_of t
+  pub fits_on : (block : Block) → 1 < state.left → light_of (onward state xact block) + used + 1 ≤ light_of t
 
 -- COMMIT of a failed block rolls back
 abbrev pub end_reply : Session → Bool → Reply
-end_reply seat commits = replies.Tag (cond commits (commit_tag (state_of seat.block)) tags.Rollback) 0
+end_reply state commits = replies.Tag (cond commits (commit_tag (state_of state.block)) tags.Rollback) 0
 
 -- the session has no open transaction any more, and COMMIT or ROLLBACK can be done
-pub record IsEnded (terms : Terms) (m : Parts) (s : ℕ) (seat : Session) (old : Past) (commits : Bool) : Type 0 where
+pub record IsEnded (terms : Terms) (m : Parts) (s : ℕ) (state : Session) (old : Past) (commits : Bool) : Type 0 where
   pub used : ℕ
   pub t : Session
-  pub over : IsOver terms m s used t seat old None (end_reply seat commits)
+  pub over : IsOver terms m s used t state old None (end_reply state commits)

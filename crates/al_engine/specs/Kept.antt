@@ -96,7 +96,7 @@ over_by limit so_far next = cond (nat_le (so_far + next) limit) None (Some (caus
 -- the statement in hand lacks this lock, and can ask for it, where the journal may weigh so much more
 pub record Lacks (terms : Terms) (p : Parts) (s : ℕ) (t : Session) (x : ℕ) (c : Claim) : Type 0 where
   pub kept : IsKept terms p
-  pub seat : slice_get p.sessions s ≡ Some t
+  pub state : slice_get p.sessions s ≡ Some t
   pub goes : can_go_on (past_of p.journal) s ≡ true
   pub in_xact : t.xact ≡ Some x
   pub before_look : look_of (past_of p.journal) s ≡ None

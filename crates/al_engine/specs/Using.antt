@@ -28,7 +28,7 @@ mode_of statement = AccessExclusive
 -- the statement in hand of an open transaction uses a table of this name in this mode, and can go on
 pub record Uses (terms : Terms) (p : Parts) (s : ℕ) (t : Session) (x : ℕ) (statement : Statement) (name : List ℕ) (mode : Mode) : Type 0 where
   pub kept : IsKept terms p
-  pub seat : slice_get p.sessions s ≡ Some t
+  pub state : slice_get p.sessions s ≡ Some t
   pub goes : can_go_on (past_of p.journal) s ≡ true
   pub in_xact : t.xact ≡ Some x
   pub statement_is : statement_of terms t.hand t.done ≡ Some statement

@@ -87,14 +87,14 @@ impl Engine {
     {
         let _ = alloc;
         let at = session as usize;
-        let seat = self.machine.sessions[at];
-        if seat.hand.is_some() {
+        let state = self.machine.sessions[at];
+        if state.hand.is_some() {
             return Err(Cant::Why(Busy));
         }
         let statements = statements_of(&self.terms, block)?;
         reserve_step(&mut self.machine.journal, statements)?;
         self.machine.journal.note(Entry::Give { session, block });
-        self.machine.sessions[at] = given(seat, block, statements);
+        self.machine.sessions[at] = given(state, block, statements);
         Ok(())
     }
 
@@ -113,15 +113,15 @@ impl Engine {
         ensures bounded { steps.new ≤ steps.old + row_entries self.old.past }
         ensures legal { IsLegalRun self.new }
     {
-        let seat = self.machine.sessions[session as usize];
-        if seat.hand.is_none() {
+        let state = self.machine.sessions[session as usize];
+        if state.hand.is_none() {
             return Ok(Told::Idle);
         }
-        if is_held_up(&self.machine.sessions, seat.wants) {
+        if is_held_up(&self.machine.sessions, state.wants) {
             return Ok(Told::Waits);
         }
         let from = self.machine.journal.len();
-        let refused = go_on(alloc, &self.terms, &mut self.machine, session, seat, steps)?;
+        let refused = go_on(alloc, &self.terms, &mut self.machine, session, state, steps)?;
         let to = self.machine.journal.len();
         Ok(Told::Went { from, to, refused })
     }
@@ -148,12 +148,12 @@ impl Engine {
         ensures cancels { Cancels self.old self.new session (hand self.old.past session) }
         ensures legal { IsLegalRun self.new }
     {
-        let seat = self.machine.sessions[session as usize];
-        if seat.hand.is_some() {
+        let state = self.machine.sessions[session as usize];
+        if state.hand.is_some() {
             let entry = self.machine.journal.len();
             self.machine.journal.note(Entry::Cancel { session });
             let cause = Cause::Cancelled { entry };
-            refuse(&self.terms, &mut self.machine, session, seat, cause);
+            refuse(&self.terms, &mut self.machine, session, state, cause);
         }
     }
 
@@ -166,13 +166,13 @@ impl Engine {
         ensures legal { IsLegalRun self.new }
     {
         let at = session as usize;
-        let seat = self.machine.sessions[at];
-        abort_open(&self.terms, &mut self.machine, session, seat);
+        let state = self.machine.sessions[at];
+        abort_open(&self.terms, &mut self.machine, session, state);
         self.machine.journal.note(Entry::Close { session });
         self.machine.sessions[at] = Session {
             xact: None,
             closed: true,
-            ..seat
+            ..state
         };
     }
 
@@ -239,15 +239,15 @@ fn reserve_step(journal: &mut History, statements: u32) -> Result<(), NoMemory>
 }
 
 /// The open transaction of an idle session is aborted, where it has one.
-fn abort_open(_terms: &Terms, machine: &mut Machine, session: u32, seat: Session)
+fn abort_open(_terms: &Terms, machine: &mut Machine, session: u32, state: Session)
     requires known { session < _terms.now.scripts.sessions }
     requires kept { IsKept _terms.now (parts_of machine.old) }
-    requires seat { slice_get machine.old.sessions.items session ≡ Some seat }
+    requires state { slice_get machine.old.sessions.items session ≡ Some state }
     requires idle { hand (past_in machine.old) session ≡ None }
     requires not_closed { closed (past_in machine.old) session ≡ false }
-    ensures { HasLeft _terms.now (parts_of machine.old) (parts_of machine.new) session seat }
+    ensures { HasLeft _terms.now (parts_of machine.old) (parts_of machine.new) session state }
 {
-    if let Some(xact) = seat.xact {
+    if let Some(xact) = state.xact {
         abort(machine, session, xact);
     }
 }

@@ -42,7 +42,7 @@ fn xact_in(sessions: &[Session], session: u32) -> u32
     ensures { result ≡ xact_in sessions.now session }
 {
     match sessions.get(session as usize) {
-        Some(seat) => seat.xact.unwrap_or(0),
+        Some(state) => state.xact.unwrap_or(0),
         None => 0,
     }
 }
@@ -51,8 +51,8 @@ fn xact_in(sessions: &[Session], session: u32) -> u32
 fn wake(sessions: &mut Vec<Session>, session: u32)
     ensures { sessions.new.items ≡ wakened session sessions.old.items }
 {
-    if let Some(seat) = sessions.get_mut(session as usize) {
-        seat.wants = None;
+    if let Some(state) = sessions.get_mut(session as usize) {
+        state.wants = None;
     }
 }
 
@@ -138,67 +138,67 @@ pub fn abort(machine: &mut Machine, session: u32, xact: u32)
 }
 
 /// The session once the statement in hand is done, and goes on with the next one.
-pub fn next_statement(seat: Session) -> Session
-    requires more { 1 < seat.left }
-    requires few { seat.done + seat.left < 2 ^ 32 }
-    ensures { result ≡ onward seat seat.xact seat.block }
+pub fn next_statement(state: Session) -> Session
+    requires more { 1 < state.left }
+    requires few { state.done + state.left < 2 ^ 32 }
+    ensures { result ≡ onward state state.xact state.block }
 {
     Session {
-        done: seat.done + 1,
-        left: seat.left - 1,
+        done: state.done + 1,
+        left: state.left - 1,
         looked: false,
         wants: None,
-        ..seat
+        ..state
     }
 }
 
 /// The statement in hand is done with this reply. The step goes on with the next one; after the last one it ends, and with it an
 /// implicit transaction.
-pub fn done(_terms: &Terms, machine: &mut Machine, session: u32, seat: Session, reply: Reply)
+pub fn done(_terms: &Terms, machine: &mut Machine, session: u32, state: Session, reply: Reply)
     requires known { session < _terms.now.scripts.sessions }
     requires amid { IsAmid _terms.now (parts_of machine.old) session 0 }
     requires clear { IsClear _terms.now (past_in machine.old) }
-    requires seat { slice_get machine.old.sessions.items session ≡ Some seat }
-    requires done { CanBeDone _terms.now (past_in machine.old) session seat reply }
+    requires state { slice_get machine.old.sessions.items session ≡ Some state }
+    requires done { CanBeDone _terms.now (past_in machine.old) session state reply }
     ensures kept { IsKept _terms.now (parts_of machine.new) }
     ensures rows { row_entries (past_in machine.new) ≡ row_entries (past_in machine.old) }
     ensures went { Went _terms.now session (past_in machine.old) (past_in machine.new) false (driver (past_in machine.old)) (IsLeast (past_in machine.old) session) }
 {
     machine.journal.note(Entry::Done { session, reply });
-    if seat.left > 1 {
-        machine.sessions[session as usize] = next_statement(seat);
-    } else if let (Block::Outside, Some(xact)) = (seat.block, seat.xact) {
+    if state.left > 1 {
+        machine.sessions[session as usize] = next_statement(state);
+    } else if let (Block::Outside, Some(xact)) = (state.block, state.xact) {
         commit(machine, session, xact);
-        end_step(machine, session, Session { xact: None, ..seat });
+        end_step(machine, session, Session { xact: None, ..state });
     } else {
-        end_step(machine, session, seat);
+        end_step(machine, session, state);
     }
 }
 
 /// The statement in hand is refused for this cause: its transaction is aborted, where one is open, its open block fails, and its
 /// step ends.
-pub fn refuse(_terms: &Terms, machine: &mut Machine, session: u32, seat: Session, cause: Cause)
+pub fn refuse(_terms: &Terms, machine: &mut Machine, session: u32, state: Session, cause: Cause)
     requires known { session < _terms.now.scripts.sessions }
     requires amid { IsAmid _terms.now (parts_of machine.old) session (used_by cause) }
-    requires seat { slice_get machine.old.sessions.items session ≡ Some seat }
-    requires refused { CanBeRefused _terms.now (past_in machine.old) session seat cause }
+    requires state { slice_get machine.old.sessions.items session ≡ Some state }
+    requires refused { CanBeRefused _terms.now (past_in machine.old) session state cause }
     ensures kept { IsKept _terms.now (parts_of machine.new) }
-    ensures exact { IsRefused (past_in machine.old) (past_in machine.new) session seat.xact cause }
+    ensures exact { IsRefused (past_in machine.old) (past_in machine.new) session state.xact cause }
     ensures went { Went _terms.now session (past_in machine.old) (past_in machine.new) true (driver (past_in machine.old)) (IsTurn (owed _terms.now (past_in machine.old)) (past_in machine.old) session) }
 {
     let place = machine.journal.len();
     machine.journal.note(Entry::Refuse { session, cause });
-    if let Some(xact) = seat.xact {
+    if let Some(xact) = state.xact {
         abort(machine, session, xact);
     }
-    let block = failed(seat.block, place);
+    let block = failed(state.block, place);
     end_step(
         machine,
         session,
         Session {
             xact: None,
             block,
-            ..seat
+            ..state
         },
     );
 }
@@ -214,11 +214,11 @@ fn failed(block: Block, place: u32) -> Block
 }
 
 /// The step in hand ends.
-pub fn end_step(machine: &mut Machine, session: u32, seat: Session)
+pub fn end_step(machine: &mut Machine, session: u32, state: Session)
     requires known { session < length machine.old.sessions.items }
     requires room { 0 < machine.old.journal.room }
     ensures past { past_in machine.new ≡ End session ∷ past_in machine.old }
-    ensures sessions { machine.new.sessions.items ≡ slice_set machine.old.sessions.items session (record seat { hand = None; looked = false; wants = None }) }
+    ensures sessions { machine.new.sessions.items ≡ slice_set machine.old.sessions.items session (record state { hand = None; looked = false; wants = None }) }
     ensures room { machine.new.journal.room + 1 ≡ machine.old.journal.room }
     ensures tables { machine.new.tables.items ≡ machine.old.tables.items }
     ensures locks { machine.new.locks ≡ machine.old.locks }
@@ -230,6 +230,6 @@ pub fn end_step(machine: &mut Machine, session: u32, seat: Session)
         hand: None,
         looked: false,
         wants: None,
-        ..seat
+        ..state
     };
 }

@@ -62,8 +62,8 @@ pub fn idle_sessions(alloc: Global, count: u32) -> Result<Vec<Session>, NoMemory
 }
 
 /// The session with this block, of so many statements, as its step in hand.
-pub fn given(seat: Session, block: u32, statements: u32) -> Session
-    ensures { result ≡ record seat { hand = Some block; done = 0; left = statements; looked = false; wants = None } }
+pub fn given(state: Session, block: u32, statements: u32) -> Session
+    ensures { result ≡ record state { hand = Some block; done = 0; left = statements; looked = false; wants = None } }
 {
     Session {
         hand: Some(block),
@@ -71,7 +71,7 @@ pub fn given(seat: Session, block: u32, statements: u32) -> Session
         left: statements,
         looked: false,
         wants: None,
-        ..seat
+        ..state
     }
 }
 
@@ -91,7 +91,7 @@ pub fn is_held_up(sessions: &[Session], wants: Option<Want>) -> bool
 fn is_open_in(sessions: &[Session], xact: u32) -> bool
     ensures { result ≡ is_open_in sessions.now xact }
 {
-    sessions.iter().any(|seat| seat.xact == Some(xact))
+    sessions.iter().any(|state| state.xact == Some(xact))
 }
 
 /// The first of so many sessions that has a step in hand and isn't held up.
@@ -101,8 +101,8 @@ pub fn first_ready(sessions: &[Session], count: u32) -> Option<u32>
     ensures none { IfNone result (AreStuck sessions.now (length sessions.now)) }
 {
     for at in 0..count {
-        let seat = sessions[at as usize];
-        if seat.hand.is_some() && !is_held_up(sessions, seat.wants) {
+        let state = sessions[at as usize];
+        if state.hand.is_some() && !is_held_up(sessions, state.wants) {
             return Some(at);
         }
     }

@@ -75,20 +75,20 @@ fn ask(
     terms: &Terms,
     machine: &mut Machine,
     session: u32,
-    seat: Session,
+    state: Session,
     xact: u32,
     table: u32,
     mode: Mode,
 ) -> Result<bool, NoMemory>
     requires known { session < terms.now.scripts.sessions }
-    requires lacks { Lacks terms.now (parts_of machine.old) session seat xact (record { session = session; table = table; mode = mode }) }
+    requires lacks { Lacks terms.now (parts_of machine.old) session state xact (record { session = session; table = table; mode = mode }) }
     ensures kept { OnOk result (IsKept terms.now (parts_of machine.new)) }
     ensures went { IfOk result (λ refused. Went terms.now session (past_in machine.old) (past_in machine.new) refused (driver (past_in machine.old)) (IsLeast (past_in machine.old) session)) }
     ensures err { OnErr result (IsSame (parts_of machine.old) (parts_of machine.new)) }
 {
     let weight = request_weight(&machine.locks, session, table, mode);
     if let Some(cause) = over(terms.weight, machine.weight, weight)? {
-        refuse(terms, machine, session, seat, cause);
+        refuse(terms, machine, session, state, cause);
         return Ok(true);
     }
     machine.journal.reserve(2)?;
@@ -99,7 +99,7 @@ fn ask(
             note_heavy(machine, Entry::Wait { xact, want }, weight);
             machine.sessions[session as usize] = Session {
                 wants: Some(want),
-                ..seat
+                ..state
             };
         }
     }
@@ -112,19 +112,19 @@ fn unknown(
     terms: &Terms,
     machine: &mut Machine,
     session: u32,
-    seat: Session,
+    state: Session,
     name: &Name,
 ) -> Result<bool, NoMemory>
     requires known { session < terms.now.scripts.sessions }
     requires kept { IsKept terms.now (parts_of machine.old) }
-    requires seat { slice_get machine.old.sessions.items session ≡ Some seat }
-    requires refused { CanBeRefused terms.now (past_in machine.old) session seat (causes.NoTable name.now) }
+    requires state { slice_get machine.old.sessions.items session ≡ Some state }
+    requires refused { CanBeRefused terms.now (past_in machine.old) session state (causes.NoTable name.now) }
     ensures kept { OnOk result (IsKept terms.now (parts_of machine.new)) }
     ensures went { IfOk result (λ refused. Went terms.now session (past_in machine.old) (past_in machine.new) refused (driver (past_in machine.old)) (IsLeast (past_in machine.old) session)) }
     ensures err { OnErr result (IsSame (parts_of machine.old) (parts_of machine.new)) }
 {
     let name = name.copied(alloc)?;
-    refuse(terms, machine, session, seat, Cause::NoTable { name });
+    refuse(terms, machine, session, state, Cause::NoTable { name });
     Ok(true)
 }
 
@@ -133,8 +133,8 @@ fn open_xacts(alloc: Global, sessions: &[Session]) -> Result<Vec<Option<u32>>, N
     ensures { IfOk result (λ xacts. xacts.items ≡ xacts_in sessions.now) }
 {
     let mut xacts = Vec::with_capacity(alloc, sessions.len())?;
-    for seat in sessions {
-        xacts.push(seat.xact)?;
+    for state in sessions {
+        xacts.push(state.xact)?;
     }
     Ok(xacts)
 }
@@ -202,25 +202,25 @@ pub fn create_table(
     terms: &Terms,
     machine: &mut Machine,
     session: u32,
-    seat: Session,
+    state: Session,
     xact: u32,
     name: &Name,
     columns: &NameList,
 ) -> Result<bool, NoMemory>
     requires known { session < terms.now.scripts.sessions }
     requires kept { IsKept terms.now (parts_of machine.old) }
-    requires seat { slice_get machine.old.sessions.items session ≡ Some seat }
+    requires state { slice_get machine.old.sessions.items session ≡ Some state }
     requires goes { can_go_on (past_in machine.old) session ≡ true }
-    requires in_xact { seat.xact ≡ Some xact }
-    requires statement { statement_of terms.now seat.hand seat.done ≡ Some (statements.CreateTable name.now columns.now) }
+    requires in_xact { state.xact ≡ Some xact }
+    requires statement { statement_of terms.now state.hand state.done ≡ Some (statements.CreateTable name.now columns.now) }
     ensures kept { OnOk result (IsKept terms.now (parts_of machine.new)) }
     ensures went { IfOk result (λ refused. Went terms.now session (past_in machine.old) (past_in machine.new) refused (driver (past_in machine.old)) (IsLeast (past_in machine.old) session)) }
     ensures err { OnErr result (IsSame (parts_of machine.old) (parts_of machine.new)) }
 {
     let limit = terms.weight;
-    let looked = seat.looked;
+    let looked = state.looked;
     if let Some(cause) = look_cause(limit, machine.weight, looked)? {
-        refuse(terms, machine, session, seat, cause);
+        refuse(terms, machine, session, state, cause);
         return Ok(true);
     }
     let columns = columns.as_slice();
@@ -228,19 +228,19 @@ pub fn create_table(
     let refusal = create_refusal(alloc, limit, machine, looked, xact, name, columns, taker)?;
     machine.journal.reserve(2)?;
     if let Some(cause) = refusal {
-        look(machine, seat, xact);
-        refuse(terms, machine, session, seat, cause);
+        look(machine, state, xact);
+        refuse(terms, machine, session, state, cause);
         return Ok(true);
     }
     if let Some(other) = taker {
-        look(machine, seat, xact);
-        wait_for_end(machine, session, seat, xact, other);
+        look(machine, state, xact);
+        wait_for_end(machine, session, state, xact, other);
         return Ok(false);
     }
-    make(alloc, machine, seat, xact, name, columns)?;
+    make(alloc, machine, state, xact, name, columns)?;
     let tag = Tag::CreateTable;
     let reply = Reply::Tag { tag, count: 0 };
-    done(terms, machine, session, seat, reply);
+    done(terms, machine, session, state, reply);
     Ok(false)
 }
 
@@ -248,23 +248,23 @@ pub fn create_table(
 fn make(
     alloc: Global,
     machine: &mut Machine,
-    seat: Session,
+    state: Session,
     xact: u32,
     name: &Name,
     columns: &[Name],
 ) -> Result<(), NoMemory>
     requires room { 2 ≤ machine.old.journal.room }
-    requires fits { machine.old.weight + cond seat.looked 0 1 + (1 + length columns.now) < 2 ^ 64 }
-    ensures past { OnOk result (past_in machine.new ≡ Make xact (length (look_past seat.looked xact (past_in machine.old))) name.now (shape_of columns.now) ∷ look_past seat.looked xact (past_in machine.old)) }
+    requires fits { machine.old.weight + cond state.looked 0 1 + (1 + length columns.now) < 2 ^ 64 }
+    ensures past { OnOk result (past_in machine.new ≡ Make xact (length (look_past state.looked xact (past_in machine.old))) name.now (shape_of columns.now) ∷ look_past state.looked xact (past_in machine.old)) }
     ensures room { OnOk result (machine.old.journal.room ≤ machine.new.journal.room + 2) }
-    ensures weight { OnOk result (machine.new.weight ≡ machine.old.weight + cond seat.looked 0 1 + (1 + length columns.now)) }
-    ensures tables { OnOk result (all_kept machine.new.tables.items ≡ all_kept machine.old.tables.items ++ record { number = length (look_past seat.looked xact (past_in machine.old)); maker = xact; name = name.now; slots = slots_of xact (shape_of columns.now); rows = [] } ∷ []) }
+    ensures weight { OnOk result (machine.new.weight ≡ machine.old.weight + cond state.looked 0 1 + (1 + length columns.now)) }
+    ensures tables { OnOk result (all_kept machine.new.tables.items ≡ all_kept machine.old.tables.items ++ record { number = length (look_past state.looked xact (past_in machine.old)); maker = xact; name = name.now; slots = slots_of xact (shape_of columns.now); rows = [] } ∷ []) }
     ensures sessions { OnOk result (machine.new.sessions.items ≡ machine.old.sessions.items) }
     ensures locks { OnOk result (machine.new.locks ≡ machine.old.locks) }
     ensures committed { OnOk result (machine.new.committed.items ≡ machine.old.committed.items) }
     ensures err { OnErr result (IsSame (parts_of machine.old) (parts_of machine.new)) }
 {
-    let number = machine.journal.len() + u32::from(!seat.looked);
+    let number = machine.journal.len() + u32::from(!state.looked);
     let table = new_table(alloc, number, xact, name, columns)?;
     let act = Entry::Make {
         xact,
@@ -273,36 +273,36 @@ fn make(
         shape: shape_of(alloc, columns)?,
     };
     machine.tables.push(table)?;
-    look(machine, seat, xact);
+    look(machine, state, xact);
     note_heavy(machine, act, 1 + columns.len() as u64);
     Ok(())
 }
 
 /// Notes the statement's Look, unless it has looked.
-fn look(machine: &mut Machine, seat: Session, xact: u32)
+fn look(machine: &mut Machine, state: Session, xact: u32)
     requires room { 0 < machine.old.journal.room }
-    requires fits { machine.old.weight + cond seat.looked 0 1 < 2 ^ 64 }
-    ensures past { past_in machine.new ≡ look_past seat.looked xact (past_in machine.old) }
+    requires fits { machine.old.weight + cond state.looked 0 1 < 2 ^ 64 }
+    ensures past { past_in machine.new ≡ look_past state.looked xact (past_in machine.old) }
     ensures room { machine.old.journal.room ≤ machine.new.journal.room + 1 }
-    ensures weight { machine.new.weight ≡ machine.old.weight + cond seat.looked 0 1 }
+    ensures weight { machine.new.weight ≡ machine.old.weight + cond state.looked 0 1 }
     ensures sessions { machine.new.sessions.items ≡ machine.old.sessions.items }
     ensures tables { machine.new.tables.items ≡ machine.old.tables.items }
     ensures locks { machine.new.locks ≡ machine.old.locks }
     ensures committed { machine.new.committed.items ≡ machine.old.committed.items }
 {
-    if !seat.looked {
+    if !state.looked {
         note_heavy(machine, Entry::Look { xact }, 1);
     }
 }
 
 /// The statement waits for the end of another's transaction.
-fn wait_for_end(machine: &mut Machine, session: u32, seat: Session, xact: u32, other: u32)
+fn wait_for_end(machine: &mut Machine, session: u32, state: Session, xact: u32, other: u32)
     requires known { session < length machine.old.sessions.items }
     requires room { 0 < machine.old.journal.room }
     requires fits { machine.old.weight + 2 < 2 ^ 64 }
     ensures past { past_in machine.new ≡ Wait xact (wants.Ends other) ∷ past_in machine.old }
     ensures room { machine.new.journal.room + 1 ≡ machine.old.journal.room }
-    ensures sessions { machine.new.sessions.items ≡ slice_set machine.old.sessions.items session (record seat { looked = true; wants = Some (wants.Ends other) }) }
+    ensures sessions { machine.new.sessions.items ≡ slice_set machine.old.sessions.items session (record state { looked = true; wants = Some (wants.Ends other) }) }
     ensures tables { machine.new.tables.items ≡ machine.old.tables.items }
     ensures locks { machine.new.locks ≡ machine.old.locks }
     ensures committed { machine.new.committed.items ≡ machine.old.committed.items }
@@ -313,7 +313,7 @@ fn wait_for_end(machine: &mut Machine, session: u32, seat: Session, xact: u32, o
     machine.sessions[session as usize] = Session {
         looked: true,
         wants: Some(want),
-        ..seat
+        ..state
     };
 }
 
@@ -347,17 +347,17 @@ pub fn use_table<L: Ledger>(
     terms: &Terms,
     machine: &mut Machine,
     session: u32,
-    seat: Session,
+    state: Session,
     xact: u32,
     statement: &Statement,
     steps: &mut Steps<L>,
 ) -> Result<bool, NoMemory>
     requires known { session < terms.now.scripts.sessions }
     requires kept { IsKept terms.now (parts_of machine.old) }
-    requires seat { slice_get machine.old.sessions.items session ≡ Some seat }
+    requires state { slice_get machine.old.sessions.items session ≡ Some state }
     requires goes { can_go_on (past_in machine.old) session ≡ true }
-    requires in_xact { seat.xact ≡ Some xact }
-    requires statement { statement_of terms.now seat.hand seat.done ≡ Some statement.now }
+    requires in_xact { state.xact ≡ Some xact }
+    requires statement { statement_of terms.now state.hand state.done ≡ Some statement.now }
     requires uses { IsSome (used_name statement.now) }
     ensures kept { OnOk result (IsKept terms.now (parts_of machine.new)) }
     ensures went { IfOk result (λ refused. Went terms.now session (past_in machine.old) (past_in machine.new) refused (driver (past_in machine.old)) (IsLeast (past_in machine.old) session)) }
@@ -371,19 +371,19 @@ pub fn use_table<L: Ledger>(
         committed: &machine.committed,
     };
     let Some(at) = position_of(&machine.tables, &reader, name) else {
-        return unknown(alloc, terms, machine, session, seat, name);
+        return unknown(alloc, terms, machine, session, state, name);
     };
     let number = machine.tables[at].number;
     let mode = mode_of(statement);
     if lacks(&machine.locks, session, number, mode) {
-        return ask(terms, machine, session, seat, xact, number, mode);
+        return ask(terms, machine, session, state, xact, number, mode);
     }
     if let Some(cause) = over(terms.weight, machine.weight, 1)? {
-        refuse(terms, machine, session, seat, cause);
+        refuse(terms, machine, session, state, cause);
         return Ok(true);
     }
     act(
-        alloc, terms, machine, session, seat, xact, at, statement, steps,
+        alloc, terms, machine, session, state, xact, at, statement, steps,
     )
 }
 
@@ -393,14 +393,14 @@ fn act<L: Ledger>(
     terms: &Terms,
     machine: &mut Machine,
     session: u32,
-    seat: Session,
+    state: Session,
     xact: u32,
     at: usize,
     statement: &Statement,
     steps: &mut Steps<L>,
 ) -> Result<bool, NoMemory>
     requires known { session < terms.now.scripts.sessions }
-    requires locked { IsLocked terms.now (parts_of machine.old) session seat xact statement.now at }
+    requires locked { IsLocked terms.now (parts_of machine.old) session state xact statement.now at }
     requires uses { IsSome (used_name statement.now) }
     ensures kept { OnOk result (IsKept terms.now (parts_of machine.new)) }
     ensures went { IfOk result (λ refused. Went terms.now session (past_in machine.old) (past_in machine.new) refused (driver (past_in machine.old)) (IsLeast (past_in machine.old) session)) }
@@ -410,11 +410,11 @@ fn act<L: Ledger>(
 {
     match statement {
         Statement::Insert { values, .. } => {
-            insert(alloc, terms, machine, session, seat, xact, at, values)
+            insert(alloc, terms, machine, session, state, xact, at, values)
         }
-        Statement::Select { .. } => select(alloc, terms, machine, session, seat, xact, at, steps),
+        Statement::Select { .. } => select(alloc, terms, machine, session, state, xact, at, steps),
         Statement::AddColumn { column, .. } => {
-            add_column(alloc, terms, machine, session, seat, xact, at, column)
+            add_column(alloc, terms, machine, session, state, xact, at, column)
         }
         _ => unreachable!(),
     }
@@ -426,13 +426,13 @@ fn insert(
     terms: &Terms,
     machine: &mut Machine,
     session: u32,
-    seat: Session,
+    state: Session,
     xact: u32,
     at: usize,
     written: &Row,
 ) -> Result<bool, NoMemory>
     requires known { session < terms.now.scripts.sessions }
-    requires locked { (name : List ℕ) × IsLocked terms.now (parts_of machine.old) session seat xact (statements.Insert name written.now) at }
+    requires locked { (name : List ℕ) × IsLocked terms.now (parts_of machine.old) session state xact (statements.Insert name written.now) at }
     ensures kept { OnOk result (IsKept terms.now (parts_of machine.new)) }
     ensures went { IfOk result (λ refused. Went terms.now session (past_in machine.old) (past_in machine.new) refused (driver (past_in machine.old)) (IsLeast (past_in machine.old) session)) }
     ensures err { OnErr result (IsSame (parts_of machine.old) (parts_of machine.new)) }
@@ -448,7 +448,7 @@ fn insert(
     machine.journal.reserve(2)?;
     if let Some(cause) = count_cause(columns.as_slice(), written.len())? {
         note_heavy(machine, Entry::Look { xact }, 1);
-        refuse(terms, machine, session, seat, cause);
+        refuse(terms, machine, session, state, cause);
         return Ok(true);
     }
     let row = filled(alloc, columns.as_slice(), written)?;
@@ -457,7 +457,7 @@ fn insert(
     let values = spread(alloc, &reader, table.columns.as_slice(), &row)?;
     if let Some(cause) = over_limit {
         note_heavy(machine, Entry::Look { xact }, 1);
-        refuse(terms, machine, session, seat, cause);
+        refuse(terms, machine, session, state, cause);
         return Ok(true);
     }
     let stored = StoredRow {
@@ -471,7 +471,7 @@ fn insert(
     note_heavy(machine, Entry::Add { xact, table, row }, weight);
     let tag = Tag::Insert;
     let reply = Reply::Tag { tag, count: 1 };
-    done(terms, machine, session, seat, reply);
+    done(terms, machine, session, state, reply);
     Ok(false)
 }
 
@@ -481,13 +481,13 @@ fn select<L: Ledger>(
     terms: &Terms,
     machine: &mut Machine,
     session: u32,
-    seat: Session,
+    state: Session,
     xact: u32,
     at: usize,
     steps: &mut Steps<L>,
 ) -> Result<bool, NoMemory>
     requires known { session < terms.now.scripts.sessions }
-    requires locked { (name : List ℕ) × IsLocked terms.now (parts_of machine.old) session seat xact (statements.Select name) at }
+    requires locked { (name : List ℕ) × IsLocked terms.now (parts_of machine.old) session state xact (statements.Select name) at }
     ensures kept { OnOk result (IsKept terms.now (parts_of machine.new)) }
     ensures went { IfOk result (λ refused. Went terms.now session (past_in machine.old) (past_in machine.new) refused (driver (past_in machine.old)) (IsLeast (past_in machine.old) session)) }
     ensures err { OnErr result (IsSame (parts_of machine.old) (parts_of machine.new)) }
@@ -508,12 +508,12 @@ fn select<L: Ledger>(
     machine.journal.reserve(2)?;
     note_heavy(machine, Entry::Look { xact }, 1);
     if let Some(cause) = over_limit {
-        refuse(terms, machine, session, seat, cause);
+        refuse(terms, machine, session, state, cause);
         return Ok(true);
     }
     let entry = machine.journal.len();
     note_heavy(machine, Entry::Read { xact, names, rows }, weight);
-    done(terms, machine, session, seat, Reply::Rows { entry });
+    done(terms, machine, session, state, Reply::Rows { entry });
     Ok(false)
 }
 
@@ -523,13 +523,13 @@ fn add_column(
     terms: &Terms,
     machine: &mut Machine,
     session: u32,
-    seat: Session,
+    state: Session,
     xact: u32,
     at: usize,
     column: &Column,
 ) -> Result<bool, NoMemory>
     requires known { session < terms.now.scripts.sessions }
-    requires locked { (name : List ℕ) × IsLocked terms.now (parts_of machine.old) session seat xact (statements.AddColumn name column.now) at }
+    requires locked { (name : List ℕ) × IsLocked terms.now (parts_of machine.old) session state xact (statements.AddColumn name column.now) at }
     ensures kept { OnOk result (IsKept terms.now (parts_of machine.new)) }
     ensures went { IfOk result (λ refused. Went terms.now session (past_in machine.old) (past_in machine.new) refused (driver (past_in machine.old)) (IsLeast (past_in machine.old) session)) }
     ensures err { OnErr result (IsSame (parts_of machine.old) (parts_of machine.new)) }
@@ -547,7 +547,7 @@ fn add_column(
     machine.journal.reserve(2)?;
     if let Some(cause) = first_of(found, over_limit) {
         note_heavy(machine, Entry::Look { xact }, 1);
-        refuse(terms, machine, session, seat, cause);
+        refuse(terms, machine, session, state, cause);
         return Ok(true);
     }
     let column = StoredColumn {
@@ -559,12 +559,12 @@ fn add_column(
     let act = Entry::Alter {
         xact,
         table: number,
-        statement: seat.done,
+        statement: state.done,
         rewritten: RewrittenList::new(alloc),
     };
     note_heavy(machine, act, 1);
     let tag = Tag::AlterTable;
     let reply = Reply::Tag { tag, count: 0 };
-    done(terms, machine, session, seat, reply);
+    done(terms, machine, session, state, reply);
     Ok(false)
 }

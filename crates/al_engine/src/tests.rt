@@ -1,6 +1,6 @@
 ghost use Rattle.std.specs.Prelude.{◌≡◌, ℕ, ◌∷◌, ◌<◌, [], false, Some, IfOk, OnOk, slice_get, option_map};
 ghost use Rattle.al_history.specs.Hand.{closed};
-ghost use Rattle.al_engine.specs.Ran.{AreSingle, Ran};
+ghost use Rattle.al_engine.specs.Ran.{AreOfSessions, Ran};
 ghost use Rattle.al_history.specs.declared.statement.ScriptBlock.{ScriptBlock};
 
 use crate::{Engine, Told};
@@ -28,10 +28,10 @@ const WEIGHT: u32 = 2_000_000;
 
 fn block(alloc: Global, session: u32, statement: Statement) -> Result<ScriptBlock, NoMemory>
     ensures session { IfOk result (λ b. b.session ≡ session) }
-    ensures one { IfOk result (λ b. b.script ≡ statement ∷ []) }
 {
     let mut script = ListOf::new(alloc);
     script.push(statement)?;
+    let script = Ok(script);
     Ok(ScriptBlock { session, script })
 }
 
@@ -62,7 +62,7 @@ fn insert(alloc: Global) -> Result<Statement, NoMemory> {
 fn scripts(alloc: Global) -> Result<Scripts, NoMemory>
     ensures sessions { IfOk result (λ s. s.sessions ≡ 2) }
     ensures blocks { IfOk result (λ s. (a b c d e : ScriptBlock) × (s.blocks ≡ a ∷ b ∷ c ∷ d ∷ e ∷ []) × (a.session ≡ 0) × (b.session ≡ 0) × (c.session ≡ 0) × (d.session ≡ 0) × (e.session ≡ 1)) }
-    ensures single { IfOk result AreSingle }
+    ensures known { IfOk result AreOfSessions }
 {
     let create = block(alloc, 0, create(alloc)?)?;
     let begin = block(alloc, 0, Statement::Begin)?;

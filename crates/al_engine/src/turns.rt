@@ -31,39 +31,39 @@ pub fn go_on<L: Ledger>(
     terms: &Terms,
     machine: &mut Machine,
     session: u32,
-    seat: Session,
+    state: Session,
     steps: &mut Steps<L>,
 ) -> Result<bool, NoMemory>
     requires known { session < terms.now.scripts.sessions }
     requires kept { IsKept terms.now (parts_of machine.old) }
-    requires seat { slice_get machine.old.sessions.items session ≡ Some seat }
+    requires state { slice_get machine.old.sessions.items session ≡ Some state }
     requires goes { can_go_on (past_in machine.old) session ≡ true }
     ensures kept { OnOk result (IsKept terms.now (parts_of machine.new)) }
     ensures went { IfOk result (λ refused. Went terms.now session (past_in machine.old) (past_in machine.new) refused (driver (past_in machine.old)) (IsLeast (past_in machine.old) session)) }
-    ensures light { OnErr result (ends_block (statement_of terms.now seat.hand seat.done) ≡ false) }
+    ensures light { OnErr result (ends_block (statement_of terms.now state.hand state.done) ≡ false) }
     ensures err { OnErr result (IsSame (parts_of machine.old) (parts_of machine.new)) }
     ensures counted { steps.old ≤ steps.new }
     ensures bounded { steps.new ≤ steps.old + row_entries (past_in machine.old) }
 {
-    match script_at(terms, seat) {
+    match script_at(terms, state) {
         Err(fault) => {
-            refuse(terms, machine, session, seat, text_cause(*fault));
+            refuse(terms, machine, session, state, text_cause(*fault));
             Ok(true)
         }
-        Ok(script) => match script.get(seat.done as usize) {
+        Ok(script) => match script.get(state.done as usize) {
             None => {
-                finish(terms, machine, session, seat);
+                finish(terms, machine, session, state);
                 Ok(false)
             }
             Some(Statement::Commit) => {
-                end_block(terms, machine, session, seat, true);
+                end_block(terms, machine, session, state, true);
                 Ok(false)
             }
             Some(Statement::Rollback) => {
-                end_block(terms, machine, session, seat, false);
+                end_block(terms, machine, session, state, false);
                 Ok(false)
             }
-            Some(other) => go_on_in_block(alloc, terms, machine, session, seat, other, steps),
+            Some(other) => go_on_in_block(alloc, terms, machine, session, state, other, steps),
         },
     }
 }
@@ -79,17 +79,17 @@ fn text_cause(fault: SqlFault) -> Cause
 }
 
 /// A step without a statement ends.
-fn finish(_terms: &Terms, machine: &mut Machine, session: u32, seat: Session)
+fn finish(_terms: &Terms, machine: &mut Machine, session: u32, state: Session)
     requires known { session < _terms.now.scripts.sessions }
     requires kept { IsKept _terms.now (parts_of machine.old) }
-    requires seat { slice_get machine.old.sessions.items session ≡ Some seat }
+    requires state { slice_get machine.old.sessions.items session ≡ Some state }
     requires goes { can_go_on (past_in machine.old) session ≡ true }
-    requires is_script { fault_of _terms.now seat.hand ≡ None }
-    requires none_left { statement_of _terms.now seat.hand seat.done ≡ None }
+    requires is_script { fault_of _terms.now state.hand ≡ None }
+    requires none_left { statement_of _terms.now state.hand state.done ≡ None }
     ensures kept { IsKept _terms.now (parts_of machine.new) }
     ensures went { Went _terms.now session (past_in machine.old) (past_in machine.new) false (driver (past_in machine.old)) (IsLeast (past_in machine.old) session) }
 {
-    end_step(machine, session, seat);
+    end_step(machine, session, state);
 }
 
 /// Goes on with a statement that isn't COMMIT or ROLLBACK: in a failed block it is refused, and where no transaction is open one
@@ -99,15 +99,15 @@ fn go_on_in_block<L: Ledger>(
     terms: &Terms,
     machine: &mut Machine,
     session: u32,
-    seat: Session,
+    state: Session,
     statement: &Statement,
     steps: &mut Steps<L>,
 ) -> Result<bool, NoMemory>
     requires known { session < terms.now.scripts.sessions }
     requires kept { IsKept terms.now (parts_of machine.old) }
-    requires seat { slice_get machine.old.sessions.items session ≡ Some seat }
+    requires state { slice_get machine.old.sessions.items session ≡ Some state }
     requires goes { can_go_on (past_in machine.old) session ≡ true }
-    requires statement { statement_of terms.now seat.hand seat.done ≡ Some statement.now }
+    requires statement { statement_of terms.now state.hand state.done ≡ Some statement.now }
     requires goes_on { starts NoBlock statement.now ≡ true }
     ensures kept { OnOk result (IsKept terms.now (parts_of machine.new)) }
     ensures went { IfOk result (λ refused. Went terms.now session (past_in machine.old) (past_in machine.new) refused (driver (past_in machine.old)) (IsLeast (past_in machine.old) session)) }
@@ -115,15 +115,15 @@ fn go_on_in_block<L: Ledger>(
     ensures counted { steps.old ≤ steps.new }
     ensures bounded { steps.new ≤ steps.old + row_entries (past_in machine.old) }
 {
-    if let Block::Failed { refuse: place } = seat.block {
+    if let Block::Failed { refuse: place } = state.block {
         let cause = Cause::BlockFailed { refuse: place };
-        refuse(terms, machine, session, seat, cause);
+        refuse(terms, machine, session, state, cause);
         return Ok(true);
     }
-    match seat.xact {
-        Some(xact) => run(alloc, terms, machine, session, seat, xact, statement, steps),
+    match state.xact {
+        Some(xact) => run(alloc, terms, machine, session, state, xact, statement, steps),
         None => {
-            begin(terms, machine, session, seat)?;
+            begin(terms, machine, session, state)?;
             Ok(false)
         }
     }
@@ -135,17 +135,17 @@ fn run<L: Ledger>(
     terms: &Terms,
     machine: &mut Machine,
     session: u32,
-    seat: Session,
+    state: Session,
     xact: u32,
     statement: &Statement,
     steps: &mut Steps<L>,
 ) -> Result<bool, NoMemory>
     requires known { session < terms.now.scripts.sessions }
     requires kept { IsKept terms.now (parts_of machine.old) }
-    requires seat { slice_get machine.old.sessions.items session ≡ Some seat }
+    requires state { slice_get machine.old.sessions.items session ≡ Some state }
     requires goes { can_go_on (past_in machine.old) session ≡ true }
-    requires in_xact { seat.xact ≡ Some xact }
-    requires statement { statement_of terms.now seat.hand seat.done ≡ Some statement.now }
+    requires in_xact { state.xact ≡ Some xact }
+    requires statement { statement_of terms.now state.hand state.done ≡ Some statement.now }
     requires goes_on { starts NoBlock statement.now ≡ true }
     ensures kept { OnOk result (IsKept terms.now (parts_of machine.new)) }
     ensures went { IfOk result (λ refused. Went terms.now session (past_in machine.old) (past_in machine.new) refused (driver (past_in machine.old)) (IsLeast (past_in machine.old) session)) }
@@ -156,37 +156,37 @@ fn run<L: Ledger>(
     match statement {
         Statement::Commit | Statement::Rollback => unreachable!(),
         Statement::Begin => {
-            begin_block(terms, machine, session, seat);
+            begin_block(terms, machine, session, state);
             Ok(false)
         }
         Statement::CreateTable { table, columns } => create_table(
-            alloc, terms, machine, session, seat, xact, table, columns,
+            alloc, terms, machine, session, state, xact, table, columns,
         ),
         Statement::Insert { .. } | Statement::Select { .. } | Statement::AddColumn { .. } => {
-            use_table(alloc, terms, machine, session, seat, xact, statement, steps)
+            use_table(alloc, terms, machine, session, state, xact, statement, steps)
         }
     }
 }
 
 /// The script of a session's step in hand, or why its text is none.
-fn script_at(terms: &Terms, seat: Session) -> &Result<Script, SqlFault>
-    requires { IsSome (option_and_then (λ block. slice_get terms.now.scripts.blocks block) seat.hand) }
-    ensures fault { fault_of terms.now seat.hand ≡ fault_in result.now }
-    ensures statements { (n : ℕ) → statement_of terms.now seat.hand n ≡ statement_in result.now n }
+fn script_at(terms: &Terms, state: Session) -> &Result<Script, SqlFault>
+    requires { IsSome (option_and_then (λ block. slice_get terms.now.scripts.blocks block) state.hand) }
+    ensures fault { fault_of terms.now state.hand ≡ fault_in result.now }
+    ensures statements { (n : ℕ) → statement_of terms.now state.hand n ≡ statement_in result.now n }
 {
-    let block = seat.hand.unwrap();
+    let block = state.hand.unwrap();
     let block = terms.scripts.blocks.get(block as usize).unwrap();
     &block.script
 }
 
 /// A transaction begins.
-fn begin(_terms: &Terms, machine: &mut Machine, session: u32, seat: Session) -> Result<(), NoMemory>
+fn begin(_terms: &Terms, machine: &mut Machine, session: u32, state: Session) -> Result<(), NoMemory>
     requires known { session < _terms.now.scripts.sessions }
     requires kept { IsKept _terms.now (parts_of machine.old) }
-    requires seat { slice_get machine.old.sessions.items session ≡ Some seat }
+    requires state { slice_get machine.old.sessions.items session ≡ Some state }
     requires goes { can_go_on (past_in machine.old) session ≡ true }
-    requires statement { option_map (starts (state_of seat.block)) (statement_of _terms.now seat.hand seat.done) ≡ Some true }
-    requires none_open { seat.xact ≡ None }
+    requires statement { option_map (starts (state_of state.block)) (statement_of _terms.now state.hand state.done) ≡ Some true }
+    requires none_open { state.xact ≡ None }
     ensures kept { OnOk result (IsKept _terms.now (parts_of machine.new)) }
     ensures went { OnOk result (Went _terms.now session (past_in machine.old) (past_in machine.new) false (driver (past_in machine.old)) (IsLeast (past_in machine.old) session)) }
     ensures err { OnErr result (IsSame (parts_of machine.old) (parts_of machine.new)) }
@@ -198,7 +198,7 @@ fn begin(_terms: &Terms, machine: &mut Machine, session: u32, seat: Session) -> 
     machine.sessions[session as usize] = Session {
         xact: Some(xact),
         wants: None,
-        ..seat
+        ..state
     };
     Ok(())
 }
@@ -240,13 +240,13 @@ fn end_tag(block: Block, commits: bool) -> Tag
 }
 
 /// BEGIN is done: the session's open transaction is a block from now on.
-fn begin_block(_terms: &Terms, machine: &mut Machine, session: u32, seat: Session)
+fn begin_block(_terms: &Terms, machine: &mut Machine, session: u32, state: Session)
     requires known { session < _terms.now.scripts.sessions }
     requires kept { IsKept _terms.now (parts_of machine.old) }
-    requires seat { slice_get machine.old.sessions.items session ≡ Some seat }
+    requires state { slice_get machine.old.sessions.items session ≡ Some state }
     requires goes { can_go_on (past_in machine.old) session ≡ true }
-    requires in_xact { IsSome seat.xact }
-    requires statement { statement_of _terms.now seat.hand seat.done ≡ Some statements.Begin }
+    requires in_xact { IsSome state.xact }
+    requires statement { statement_of _terms.now state.hand state.done ≡ Some statements.Begin }
     ensures kept { IsKept _terms.now (parts_of machine.new) }
     ensures went { Went _terms.now session (past_in machine.old) (past_in machine.new) false (driver (past_in machine.old)) (IsLeast (past_in machine.old) session) }
 {
@@ -255,70 +255,70 @@ fn begin_block(_terms: &Terms, machine: &mut Machine, session: u32, seat: Sessio
         session,
         reply: Reply::Tag { tag, count: 0 },
     });
-    let block = opened(seat.block);
-    pass(machine, session, Session { block, ..seat });
+    let block = opened(state.block);
+    pass(machine, session, Session { block, ..state });
 }
 
 /// COMMIT or ROLLBACK is done: the session's open transaction ends, where it has one, and its block.
-fn end_block(_terms: &Terms, machine: &mut Machine, session: u32, seat: Session, commits: bool)
+fn end_block(_terms: &Terms, machine: &mut Machine, session: u32, state: Session, commits: bool)
     requires known { session < _terms.now.scripts.sessions }
     requires kept { IsKept _terms.now (parts_of machine.old) }
-    requires seat { slice_get machine.old.sessions.items session ≡ Some seat }
+    requires state { slice_get machine.old.sessions.items session ≡ Some state }
     requires goes { can_go_on (past_in machine.old) session ≡ true }
-    requires statement { statement_of _terms.now seat.hand seat.done ≡ Some (cond commits statements.Commit statements.Rollback) }
+    requires statement { statement_of _terms.now state.hand state.done ≡ Some (cond commits statements.Commit statements.Rollback) }
     ensures kept { IsKept _terms.now (parts_of machine.new) }
     ensures went { Went _terms.now session (past_in machine.old) (past_in machine.new) false (driver (past_in machine.old)) (IsLeast (past_in machine.old) session) }
 {
-    end_xact(_terms, machine, session, seat, commits);
-    let tag = end_tag(seat.block, commits);
+    end_xact(_terms, machine, session, state, commits);
+    let tag = end_tag(state.block, commits);
     machine.journal.note(Entry::Done {
         session,
         reply: Reply::Tag { tag, count: 0 },
     });
-    pass(machine, session, out_of_block(seat));
+    pass(machine, session, out_of_block(state));
 }
 
 /// The step goes on with its next statement, or ends, where none is left.
-fn pass(machine: &mut Machine, session: u32, seat: Session)
+fn pass(machine: &mut Machine, session: u32, state: Session)
     requires known { session < length machine.old.sessions.items }
     requires room { 0 < machine.old.journal.room }
-    requires few { seat.done + seat.left < 2 ^ 32 }
-    ensures past { past_in machine.new ≡ cond (nat_lt 1 seat.left) (past_in machine.old) (End session ∷ past_in machine.old) }
-    ensures sessions { machine.new.sessions.items ≡ slice_set machine.old.sessions.items session (passed seat) }
-    ensures room { machine.new.journal.room + cond (nat_lt 1 seat.left) 0 1 ≡ machine.old.journal.room }
+    requires few { state.done + state.left < 2 ^ 32 }
+    ensures past { past_in machine.new ≡ cond (nat_lt 1 state.left) (past_in machine.old) (End session ∷ past_in machine.old) }
+    ensures sessions { machine.new.sessions.items ≡ slice_set machine.old.sessions.items session (passed state) }
+    ensures room { machine.new.journal.room + cond (nat_lt 1 state.left) 0 1 ≡ machine.old.journal.room }
     ensures tables { machine.new.tables.items ≡ machine.old.tables.items }
     ensures locks { machine.new.locks ≡ machine.old.locks }
     ensures committed { machine.new.committed.items ≡ machine.old.committed.items }
     ensures weight { machine.new.weight ≡ machine.old.weight }
 {
-    if seat.left > 1 {
-        machine.sessions[session as usize] = next_statement(seat);
+    if state.left > 1 {
+        machine.sessions[session as usize] = next_statement(state);
     } else {
-        end_step(machine, session, seat);
+        end_step(machine, session, state);
     }
 }
 
 /// The session once its transaction block has ended.
-fn out_of_block(seat: Session) -> Session
-    ensures { result ≡ record seat { xact = None; block = blocks.Outside } }
+fn out_of_block(state: Session) -> Session
+    ensures { result ≡ record state { xact = None; block = blocks.Outside } }
 {
     Session {
         xact: None,
         block: Block::Outside,
-        ..seat
+        ..state
     }
 }
 
 /// The session's open transaction ends by COMMIT or ROLLBACK, where it has one.
-fn end_xact(_terms: &Terms, machine: &mut Machine, session: u32, seat: Session, commits: bool)
+fn end_xact(_terms: &Terms, machine: &mut Machine, session: u32, state: Session, commits: bool)
     requires known { session < _terms.now.scripts.sessions }
     requires kept { IsKept _terms.now (parts_of machine.old) }
-    requires seat { slice_get machine.old.sessions.items session ≡ Some seat }
+    requires state { slice_get machine.old.sessions.items session ≡ Some state }
     requires goes { can_go_on (past_in machine.old) session ≡ true }
-    requires statement { statement_of _terms.now seat.hand seat.done ≡ Some (cond commits statements.Commit statements.Rollback) }
-    ensures { IsEnded _terms.now (parts_of machine.new) session seat (past_in machine.old) commits }
+    requires statement { statement_of _terms.now state.hand state.done ≡ Some (cond commits statements.Commit statements.Rollback) }
+    ensures { IsEnded _terms.now (parts_of machine.new) session state (past_in machine.old) commits }
 {
-    match seat.xact {
+    match state.xact {
         None => {}
         Some(xact) if commits => commit(machine, session, xact),
         Some(xact) => abort(machine, session, xact),

@@ -12,7 +12,7 @@ use Rattle.al_engine.proofs.statements.insert.Goals as goal
 
 pub refuse-requires-clause-amid : goal.refuse-requires-clause-amid
 refuse-requires-clause-amid c =
-    let h = has_table c.args.terms.now (parts_of c.args.machine.now) c.args.session c.args.seat c.args.xact (statements.Insert c.requires.locked.0 c.args.written.now) c.requires.locked.0 c.args.at c.index-table.result.now c.requires.locked.1 refl c.index-table.ensures in
+    let h = has_table c.args.terms.now (parts_of c.args.machine.now) c.args.session c.args.state c.args.xact (statements.Insert c.requires.locked.0 c.args.written.now) c.requires.locked.0 c.args.at c.index-table.result.now c.requires.locked.1 refl c.index-table.ensures in
     let q : Parts = parts_of c.note_heavy.new.machine in
     let past_is : past_of q.journal ≡ Look c.args.xact ∷ past_of c.args.machine.now.journal = pushed _ _ c.reserve.new.self c.args.machine.now.journal c.note_heavy.ensures.past c.in_ok-reserve.ensures.entries in
     let still : StaysBut (parts_of c.args.machine.now) q = stays (parts_of c.args.machine.now) q _ past_is c.note_heavy.ensures.sessions c.note_heavy.ensures.locks c.note_heavy.ensures.committed (omega (arith, c.note_heavy.ensures.room, c.in_ok-reserve.ensures.ok)) refl refl (omega (arith, c.note_heavy.ensures.weight, c.requires.locked.1.uses.kept.sound.weighed)) in
@@ -21,7 +21,7 @@ refuse-requires-clause-amid c =
 
 pub refuse-requires-clause-refused : goal.refuse-requires-clause-refused
 refuse-requires-clause-refused c =
-    let h = has_table c.args.terms.now (parts_of c.args.machine.now) c.args.session c.args.seat c.args.xact (statements.Insert c.requires.locked.0 c.args.written.now) c.requires.locked.0 c.args.at c.index-table.result.now c.requires.locked.1 refl c.index-table.ensures in
+    let h = has_table c.args.terms.now (parts_of c.args.machine.now) c.args.session c.args.state c.args.xact (statements.Insert c.requires.locked.0 c.args.written.now) c.requires.locked.0 c.args.at c.index-table.result.now c.requires.locked.1 refl c.index-table.ensures in
     let q : Parts = parts_of c.note_heavy.new.machine in
     let past_is : past_of q.journal ≡ Look c.args.xact ∷ past_of c.args.machine.now.journal = pushed _ _ c.reserve.new.self c.args.machine.now.journal c.note_heavy.ensures.past c.in_ok-reserve.ensures.entries in
     let still : StaysBut (parts_of c.args.machine.now) q = stays (parts_of c.args.machine.now) q _ past_is c.note_heavy.ensures.sessions c.note_heavy.ensures.locks c.note_heavy.ensures.committed (omega (arith, c.note_heavy.ensures.room, c.in_ok-reserve.ensures.ok)) refl refl (omega (arith, c.note_heavy.ensures.weight, c.requires.locked.1.uses.kept.sound.weighed)) in
@@ -30,7 +30,7 @@ refuse-requires-clause-refused c =
 
 pub returns-in-Some-clause-went : goal.returns-in-Some-clause-went
 returns-in-Some-clause-went c =
-    let h = has_table c.args.terms.now (parts_of c.args.machine.now) c.args.session c.args.seat c.args.xact (statements.Insert c.requires.locked.0 c.args.written.now) c.requires.locked.0 c.args.at c.index-table.result.now c.requires.locked.1 refl c.index-table.ensures in
+    let h = has_table c.args.terms.now (parts_of c.args.machine.now) c.args.session c.args.state c.args.xact (statements.Insert c.requires.locked.0 c.args.written.now) c.requires.locked.0 c.args.at c.index-table.result.now c.requires.locked.1 refl c.index-table.ensures in
     let q : Parts = parts_of c.note_heavy.new.machine in
     let past_is : past_of q.journal ≡ Look c.args.xact ∷ past_of c.args.machine.now.journal = pushed _ _ c.reserve.new.self c.args.machine.now.journal c.note_heavy.ensures.past c.in_ok-reserve.ensures.entries in
     let still : StaysBut (parts_of c.args.machine.now) q = stays (parts_of c.args.machine.now) q _ past_is c.note_heavy.ensures.sessions c.note_heavy.ensures.locks c.note_heavy.ensures.committed (omega (arith, c.note_heavy.ensures.room, c.in_ok-reserve.ensures.ok)) refl refl (omega (arith, c.note_heavy.ensures.weight, c.requires.locked.1.uses.kept.sound.weighed)) in
@@ -39,7 +39,7 @@ returns-in-Some-clause-went c =
 
 pub refuse-requires-in-Some-over_limit-clause-amid : goal.refuse-requires-in-Some-over_limit-clause-amid
 refuse-requires-in-Some-over_limit-clause-amid c =
-    let h = has_table c.args.terms.now (parts_of c.args.machine.now) c.args.session c.args.seat c.args.xact (statements.Insert c.requires.locked.0 c.args.written.now) c.requires.locked.0 c.args.at c.index-table.result.now c.requires.locked.1 refl c.index-table.ensures in
+    let h = has_table c.args.terms.now (parts_of c.args.machine.now) c.args.session c.args.state c.args.xact (statements.Insert c.requires.locked.0 c.args.written.now) c.requires.locked.0 c.args.at c.index-table.result.now c.requires.locked.1 refl c.index-table.ensures in
     let q : Parts = parts_of c.note_heavy-in-Some-over_limit.new.machine in
     let past_is : past_of q.journal ≡ Look c.args.xact ∷ past_of c.args.machine.now.journal = pushed _ _ c.reserve.new.self c.args.machine.now.journal c.note_heavy-in-Some-over_limit.ensures.past c.in_ok-reserve.ensures.entries in
     let still : StaysBut (parts_of c.args.machine.now) q = stays (parts_of c.args.machine.now) q _ past_is c.note_heavy-in-Some-over_limit.ensures.sessions c.note_heavy-in-Some-over_limit.ensures.locks c.note_heavy-in-Some-over_limit.ensures.committed (omega (arith, c.note_heavy-in-Some-over_limit.ensures.room, c.in_ok-reserve.ensures.ok)) refl refl (omega (arith, c.note_heavy-in-Some-over_limit.ensures.weight, c.requires.locked.1.uses.kept.sound.weighed)) in
@@ -48,7 +48,7 @@ refuse-requires-in-Some-over_limit-clause-amid c =
 
 pub refuse-requires-in-Some-over_limit-clause-refused : goal.refuse-requires-in-Some-over_limit-clause-refused
 refuse-requires-in-Some-over_limit-clause-refused c =
-    let h = has_table c.args.terms.now (parts_of c.args.machine.now) c.args.session c.args.seat c.args.xact (statements.Insert c.requires.locked.0 c.args.written.now) c.requires.locked.0 c.args.at c.index-table.result.now c.requires.locked.1 refl c.index-table.ensures in
+    let h = has_table c.args.terms.now (parts_of c.args.machine.now) c.args.session c.args.state c.args.xact (statements.Insert c.requires.locked.0 c.args.written.now) c.requires.locked.0 c.args.at c.index-table.result.now c.requires.locked.1 refl c.index-table.ensures in
     let q : Parts = parts_of c.note_heavy-in-Some-over_limit.new.machine in
     let past_is : past_of q.journal ≡ Look c.args.xact ∷ past_of c.args.machine.now.journal = pushed _ _ c.reserve.new.self c.args.machine.now.journal c.note_heavy-in-Some-over_limit.ensures.past c.in_ok-reserve.ensures.entries in
     let still : StaysBut (parts_of c.args.machine.now) q = stays (parts_of c.args.machine.now) q _ past_is c.note_heavy-in-Some-over_limit.ensures.sessions c.note_heavy-in-Some-over_limit.ensures.locks c.note_heavy-in-Some-over_limit.ensures.committed (omega (arith, c.note_heavy-in-Some-over_limit.ensures.room, c.in_ok-reserve.ensures.ok)) refl refl (omega (arith, c.note_heavy-in-Some-over_limit.ensures.weight, c.requires.locked.1.uses.kept.sound.weighed)) in
@@ -57,7 +57,7 @@ refuse-requires-in-Some-over_limit-clause-refused c =
 
 pub returns-in-Some-over_limit-clause-went : goal.returns-in-Some-over_limit-clause-went
 returns-in-Some-over_limit-clause-went c =
-    let h = has_table c.args.terms.now (parts_of c.args.machine.now) c.args.session c.args.seat c.args.xact (statements.Insert c.requires.locked.0 c.args.written.now) c.requires.locked.0 c.args.at c.index-table.result.now c.requires.locked.1 refl c.index-table.ensures in
+    let h = has_table c.args.terms.now (parts_of c.args.machine.now) c.args.session c.args.state c.args.xact (statements.Insert c.requires.locked.0 c.args.written.now) c.requires.locked.0 c.args.at c.index-table.result.now c.requires.locked.1 refl c.index-table.ensures in
     let q : Parts = parts_of c.note_heavy-in-Some-over_limit.new.machine in
     let past_is : past_of q.journal ≡ Look c.args.xact ∷ past_of c.args.machine.now.journal = pushed _ _ c.reserve.new.self c.args.machine.now.journal c.note_heavy-in-Some-over_limit.ensures.past c.in_ok-reserve.ensures.entries in
     let still : StaysBut (parts_of c.args.machine.now) q = stays (parts_of c.args.machine.now) q _ past_is c.note_heavy-in-Some-over_limit.ensures.sessions c.note_heavy-in-Some-over_limit.ensures.locks c.note_heavy-in-Some-over_limit.ensures.committed (omega (arith, c.note_heavy-in-Some-over_limit.ensures.room, c.in_ok-reserve.ensures.ok)) refl refl (omega (arith, c.note_heavy-in-Some-over_limit.ensures.weight, c.requires.locked.1.uses.kept.sound.weighed)) in
@@ -66,7 +66,7 @@ returns-in-Some-over_limit-clause-went c =
 
 pub done-requires-clause-amid : goal.done-requires-clause-amid
 done-requires-clause-amid c =
-    let h = has_table c.args.terms.now (parts_of c.args.machine.now) c.args.session c.args.seat c.args.xact (statements.Insert c.requires.locked.0 c.args.written.now) c.requires.locked.0 c.args.at c.index-table.result.now c.requires.locked.1 refl c.index-table.ensures in
+    let h = has_table c.args.terms.now (parts_of c.args.machine.now) c.args.session c.args.state c.args.xact (statements.Insert c.requires.locked.0 c.args.written.now) c.requires.locked.0 c.args.at c.index-table.result.now c.requires.locked.1 refl c.index-table.ensures in
     let q : Parts = parts_of c.note_heavy-3.new.machine in
     let looked : past_of c.note_heavy-2.new.machine.journal ≡ Look c.args.xact ∷ past_of c.args.machine.now.journal = pushed _ _ c.reserve.new.self c.args.machine.now.journal c.note_heavy-2.ensures.past c.in_ok-reserve.ensures.entries in
     let past_is : past_of q.journal ≡ Add c.args.xact c.index-table.result.now.number c.in_ok-row.row ∷ Look c.args.xact ∷ past_of c.args.machine.now.journal = c.note_heavy-3.ensures.past ∙ ap (λ (past : Past). Add c.args.xact c.index-table.result.now.number c.in_ok-row.row ∷ past) looked in
@@ -78,7 +78,7 @@ done-requires-clause-amid c =
 
 pub done-requires-clause-done : goal.done-requires-clause-done
 done-requires-clause-done c =
-    let h = has_table c.args.terms.now (parts_of c.args.machine.now) c.args.session c.args.seat c.args.xact (statements.Insert c.requires.locked.0 c.args.written.now) c.requires.locked.0 c.args.at c.index-table.result.now c.requires.locked.1 refl c.index-table.ensures in
+    let h = has_table c.args.terms.now (parts_of c.args.machine.now) c.args.session c.args.state c.args.xact (statements.Insert c.requires.locked.0 c.args.written.now) c.requires.locked.0 c.args.at c.index-table.result.now c.requires.locked.1 refl c.index-table.ensures in
     let q : Parts = parts_of c.note_heavy-3.new.machine in
     let looked : past_of c.note_heavy-2.new.machine.journal ≡ Look c.args.xact ∷ past_of c.args.machine.now.journal = pushed _ _ c.reserve.new.self c.args.machine.now.journal c.note_heavy-2.ensures.past c.in_ok-reserve.ensures.entries in
     let past_is : past_of q.journal ≡ Add c.args.xact c.index-table.result.now.number c.in_ok-row.row ∷ Look c.args.xact ∷ past_of c.args.machine.now.journal = c.note_heavy-3.ensures.past ∙ ap (λ (past : Past). Add c.args.xact c.index-table.result.now.number c.in_ok-row.row ∷ past) looked in
@@ -90,7 +90,7 @@ done-requires-clause-done c =
 
 pub returns-clause-went : goal.returns-clause-went
 returns-clause-went c =
-    let h = has_table c.args.terms.now (parts_of c.args.machine.now) c.args.session c.args.seat c.args.xact (statements.Insert c.requires.locked.0 c.args.written.now) c.requires.locked.0 c.args.at c.index-table.result.now c.requires.locked.1 refl c.index-table.ensures in
+    let h = has_table c.args.terms.now (parts_of c.args.machine.now) c.args.session c.args.state c.args.xact (statements.Insert c.requires.locked.0 c.args.written.now) c.requires.locked.0 c.args.at c.index-table.result.now c.requires.locked.1 refl c.index-table.ensures in
     let q : Parts = parts_of c.note_heavy-3.new.machine in
     let looked : past_of c.note_heavy-2.new.machine.journal ≡ Look c.args.xact ∷ past_of c.args.machine.now.journal = pushed _ _ c.reserve.new.self c.args.machine.now.journal c.note_heavy-2.ensures.past c.in_ok-reserve.ensures.entries in
     let past_is : past_of q.journal ≡ Add c.args.xact c.index-table.result.now.number c.in_ok-row.row ∷ Look c.args.xact ∷ past_of c.args.machine.now.journal = c.note_heavy-3.ensures.past ∙ ap (λ (past : Past). Add c.args.xact c.index-table.result.now.number c.in_ok-row.row ∷ past) looked in

@@ -12,32 +12,32 @@ use Rattle.al_engine.proofs.statements.select.Goals as goal
 
 pub returns-in_err-rows-clause-bounded : goal.returns-in_err-rows-clause-bounded
 returns-in_err-rows-clause-bounded g c =
-    let there = (has_table c.args.terms.now (parts_of c.args.machine.now) c.args.session c.args.seat c.args.xact (statements.Select c.requires.locked.0) c.requires.locked.0 c.args.at c.index-table.result.now c.requires.locked.1 refl c.index-table.ensures).there in
+    let there = (has_table c.args.terms.now (parts_of c.args.machine.now) c.args.session c.args.state c.args.xact (statements.Select c.requires.locked.0) c.requires.locked.0 c.args.at c.index-table.result.now c.requires.locked.1 refl c.index-table.ensures).there in
     omega (arith, rows_within _ (parts_of c.args.machine.now) c.args.at c.index-table.result.now c.requires.locked.1.uses.kept there, c.rows_of.ensures.bounded)
 
 pub returns-in_err-weight-clause-bounded : goal.returns-in_err-weight-clause-bounded
 returns-in_err-weight-clause-bounded g c =
-    let there = (has_table c.args.terms.now (parts_of c.args.machine.now) c.args.session c.args.seat c.args.xact (statements.Select c.requires.locked.0) c.requires.locked.0 c.args.at c.index-table.result.now c.requires.locked.1 refl c.index-table.ensures).there in
+    let there = (has_table c.args.terms.now (parts_of c.args.machine.now) c.args.session c.args.state c.args.xact (statements.Select c.requires.locked.0) c.requires.locked.0 c.args.at c.index-table.result.now c.requires.locked.1 refl c.index-table.ensures).there in
     omega (arith, rows_within _ (parts_of c.args.machine.now) c.args.at c.index-table.result.now c.requires.locked.1.uses.kept there, c.rows_of.ensures.bounded)
 
 pub returns-in_err-so_far-clause-bounded : goal.returns-in_err-so_far-clause-bounded
 returns-in_err-so_far-clause-bounded g c =
-    let there = (has_table c.args.terms.now (parts_of c.args.machine.now) c.args.session c.args.seat c.args.xact (statements.Select c.requires.locked.0) c.requires.locked.0 c.args.at c.index-table.result.now c.requires.locked.1 refl c.index-table.ensures).there in
+    let there = (has_table c.args.terms.now (parts_of c.args.machine.now) c.args.session c.args.state c.args.xact (statements.Select c.requires.locked.0) c.requires.locked.0 c.args.at c.index-table.result.now c.requires.locked.1 refl c.index-table.ensures).there in
     omega (arith, rows_within _ (parts_of c.args.machine.now) c.args.at c.index-table.result.now c.requires.locked.1.uses.kept there, c.rows_of.ensures.bounded)
 
 pub returns-in_err-over_limit-clause-bounded : goal.returns-in_err-over_limit-clause-bounded
 returns-in_err-over_limit-clause-bounded g c =
-    let there = (has_table c.args.terms.now (parts_of c.args.machine.now) c.args.session c.args.seat c.args.xact (statements.Select c.requires.locked.0) c.requires.locked.0 c.args.at c.index-table.result.now c.requires.locked.1 refl c.index-table.ensures).there in
+    let there = (has_table c.args.terms.now (parts_of c.args.machine.now) c.args.session c.args.state c.args.xact (statements.Select c.requires.locked.0) c.requires.locked.0 c.args.at c.index-table.result.now c.requires.locked.1 refl c.index-table.ensures).there in
     omega (arith, rows_within _ (parts_of c.args.machine.now) c.args.at c.index-table.result.now c.requires.locked.1.uses.kept there, c.rows_of.ensures.bounded)
 
 pub returns-in_err-reserve-clause-bounded : goal.returns-in_err-reserve-clause-bounded
 returns-in_err-reserve-clause-bounded g c =
-    let there = (has_table c.args.terms.now (parts_of c.args.machine.now) c.args.session c.args.seat c.args.xact (statements.Select c.requires.locked.0) c.requires.locked.0 c.args.at c.index-table.result.now c.requires.locked.1 refl c.index-table.ensures).there in
+    let there = (has_table c.args.terms.now (parts_of c.args.machine.now) c.args.session c.args.state c.args.xact (statements.Select c.requires.locked.0) c.requires.locked.0 c.args.at c.index-table.result.now c.requires.locked.1 refl c.index-table.ensures).there in
     omega (arith, rows_within _ (parts_of c.args.machine.now) c.args.at c.index-table.result.now c.requires.locked.1.uses.kept there, c.rows_of.ensures.bounded)
 
 pub refuse-requires-clause-amid : goal.refuse-requires-clause-amid
 refuse-requires-clause-amid g c =
-    let h = has_table c.args.terms.now (parts_of c.args.machine.now) c.args.session c.args.seat c.args.xact (statements.Select c.requires.locked.0) c.requires.locked.0 c.args.at c.index-table.result.now c.requires.locked.1 refl c.index-table.ensures in
+    let h = has_table c.args.terms.now (parts_of c.args.machine.now) c.args.session c.args.state c.args.xact (statements.Select c.requires.locked.0) c.requires.locked.0 c.args.at c.index-table.result.now c.requires.locked.1 refl c.index-table.ensures in
     let names = rw (c.as_slice.ensures, c.in_ok-columns.ensures, c.deref.ensures.value) at c.in_ok-names.ensures in
     let q : Parts = parts_of c.note_heavy.new.machine in
     let past_is : past_of q.journal ≡ Look c.args.xact ∷ past_of c.args.machine.now.journal = pushed _ _ c.reserve.new.self c.args.machine.now.journal c.note_heavy.ensures.past c.in_ok-reserve.ensures.entries in
@@ -47,7 +47,7 @@ refuse-requires-clause-amid g c =
 
 pub refuse-requires-clause-refused : goal.refuse-requires-clause-refused
 refuse-requires-clause-refused g c =
-    let h = has_table c.args.terms.now (parts_of c.args.machine.now) c.args.session c.args.seat c.args.xact (statements.Select c.requires.locked.0) c.requires.locked.0 c.args.at c.index-table.result.now c.requires.locked.1 refl c.index-table.ensures in
+    let h = has_table c.args.terms.now (parts_of c.args.machine.now) c.args.session c.args.state c.args.xact (statements.Select c.requires.locked.0) c.requires.locked.0 c.args.at c.index-table.result.now c.requires.locked.1 refl c.index-table.ensures in
     let names = rw (c.as_slice.ensures, c.in_ok-columns.ensures, c.deref.ensures.value) at c.in_ok-names.ensures in
     let q : Parts = parts_of c.note_heavy.new.machine in
     let past_is : past_of q.journal ≡ Look c.args.xact ∷ past_of c.args.machine.now.journal = pushed _ _ c.reserve.new.self c.args.machine.now.journal c.note_heavy.ensures.past c.in_ok-reserve.ensures.entries in
@@ -57,7 +57,7 @@ refuse-requires-clause-refused g c =
 
 pub returns-in-Some-clause-went : goal.returns-in-Some-clause-went
 returns-in-Some-clause-went g c =
-    let h = has_table c.args.terms.now (parts_of c.args.machine.now) c.args.session c.args.seat c.args.xact (statements.Select c.requires.locked.0) c.requires.locked.0 c.args.at c.index-table.result.now c.requires.locked.1 refl c.index-table.ensures in
+    let h = has_table c.args.terms.now (parts_of c.args.machine.now) c.args.session c.args.state c.args.xact (statements.Select c.requires.locked.0) c.requires.locked.0 c.args.at c.index-table.result.now c.requires.locked.1 refl c.index-table.ensures in
     let names = rw (c.as_slice.ensures, c.in_ok-columns.ensures, c.deref.ensures.value) at c.in_ok-names.ensures in
     let q : Parts = parts_of c.note_heavy.new.machine in
     let past_is : past_of q.journal ≡ Look c.args.xact ∷ past_of c.args.machine.now.journal = pushed _ _ c.reserve.new.self c.args.machine.now.journal c.note_heavy.ensures.past c.in_ok-reserve.ensures.entries in
@@ -67,12 +67,12 @@ returns-in-Some-clause-went g c =
 
 pub returns-in-Some-clause-bounded : goal.returns-in-Some-clause-bounded
 returns-in-Some-clause-bounded g c =
-    let there = (has_table c.args.terms.now (parts_of c.args.machine.now) c.args.session c.args.seat c.args.xact (statements.Select c.requires.locked.0) c.requires.locked.0 c.args.at c.index-table.result.now c.requires.locked.1 refl c.index-table.ensures).there in
+    let there = (has_table c.args.terms.now (parts_of c.args.machine.now) c.args.session c.args.state c.args.xact (statements.Select c.requires.locked.0) c.requires.locked.0 c.args.at c.index-table.result.now c.requires.locked.1 refl c.index-table.ensures).there in
     omega (arith, rows_within _ (parts_of c.args.machine.now) c.args.at c.index-table.result.now c.requires.locked.1.uses.kept there, c.rows_of.ensures.bounded)
 
 pub done-requires-clause-amid : goal.done-requires-clause-amid
 done-requires-clause-amid g c =
-    let h = has_table c.args.terms.now (parts_of c.args.machine.now) c.args.session c.args.seat c.args.xact (statements.Select c.requires.locked.0) c.requires.locked.0 c.args.at c.index-table.result.now c.requires.locked.1 refl c.index-table.ensures in
+    let h = has_table c.args.terms.now (parts_of c.args.machine.now) c.args.session c.args.state c.args.xact (statements.Select c.requires.locked.0) c.requires.locked.0 c.args.at c.index-table.result.now c.requires.locked.1 refl c.index-table.ensures in
     let names = rw (c.as_slice.ensures, c.in_ok-columns.ensures, c.deref.ensures.value) at c.in_ok-names.ensures in
     let q : Parts = parts_of c.note_heavy-2.new.machine in
     let looked : past_of c.note_heavy.new.machine.journal ≡ Look c.args.xact ∷ past_of c.args.machine.now.journal = pushed _ _ c.reserve.new.self c.args.machine.now.journal c.note_heavy.ensures.past c.in_ok-reserve.ensures.entries in
@@ -84,7 +84,7 @@ done-requires-clause-amid g c =
 
 pub done-requires-clause-done : goal.done-requires-clause-done
 done-requires-clause-done g c =
-    let h = has_table c.args.terms.now (parts_of c.args.machine.now) c.args.session c.args.seat c.args.xact (statements.Select c.requires.locked.0) c.requires.locked.0 c.args.at c.index-table.result.now c.requires.locked.1 refl c.index-table.ensures in
+    let h = has_table c.args.terms.now (parts_of c.args.machine.now) c.args.session c.args.state c.args.xact (statements.Select c.requires.locked.0) c.requires.locked.0 c.args.at c.index-table.result.now c.requires.locked.1 refl c.index-table.ensures in
     let names = rw (c.as_slice.ensures, c.in_ok-columns.ensures, c.deref.ensures.value) at c.in_ok-names.ensures in
     let q : Parts = parts_of c.note_heavy-2.new.machine in
     let looked : past_of c.note_heavy.new.machine.journal ≡ Look c.args.xact ∷ past_of c.args.machine.now.journal = pushed _ _ c.reserve.new.self c.args.machine.now.journal c.note_heavy.ensures.past c.in_ok-reserve.ensures.entries in
@@ -96,7 +96,7 @@ done-requires-clause-done g c =
 
 pub returns-clause-went : goal.returns-clause-went
 returns-clause-went g c =
-    let h = has_table c.args.terms.now (parts_of c.args.machine.now) c.args.session c.args.seat c.args.xact (statements.Select c.requires.locked.0) c.requires.locked.0 c.args.at c.index-table.result.now c.requires.locked.1 refl c.index-table.ensures in
+    let h = has_table c.args.terms.now (parts_of c.args.machine.now) c.args.session c.args.state c.args.xact (statements.Select c.requires.locked.0) c.requires.locked.0 c.args.at c.index-table.result.now c.requires.locked.1 refl c.index-table.ensures in
     let names = rw (c.as_slice.ensures, c.in_ok-columns.ensures, c.deref.ensures.value) at c.in_ok-names.ensures in
     let q : Parts = parts_of c.note_heavy-2.new.machine in
     let looked : past_of c.note_heavy.new.machine.journal ≡ Look c.args.xact ∷ past_of c.args.machine.now.journal = pushed _ _ c.reserve.new.self c.args.machine.now.journal c.note_heavy.ensures.past c.in_ok-reserve.ensures.entries in
@@ -108,5 +108,5 @@ returns-clause-went g c =
 
 pub returns-clause-bounded : goal.returns-clause-bounded
 returns-clause-bounded g c =
-    let there = (has_table c.args.terms.now (parts_of c.args.machine.now) c.args.session c.args.seat c.args.xact (statements.Select c.requires.locked.0) c.requires.locked.0 c.args.at c.index-table.result.now c.requires.locked.1 refl c.index-table.ensures).there in
+    let there = (has_table c.args.terms.now (parts_of c.args.machine.now) c.args.session c.args.state c.args.xact (statements.Select c.requires.locked.0) c.requires.locked.0 c.args.at c.index-table.result.now c.requires.locked.1 refl c.index-table.ensures).there in
     omega (arith, rows_within _ (parts_of c.args.machine.now) c.args.at c.index-table.result.now c.requires.locked.1.uses.kept there, c.rows_of.ensures.bounded)

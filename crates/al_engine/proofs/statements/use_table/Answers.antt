@@ -10,12 +10,12 @@ use Rattle.al_engine.proofs.statements.use_table.Goals as goal
 
 pub unknown-requires-clause-refused : goal.unknown-requires-clause-refused
 unknown-requires-clause-refused g c =
-    let u = uses_of c.args.terms.now (parts_of c.args.machine.now) c.args.session c.args.seat c.args.xact c.args.statement.now c.unwrap-name.result.now c.requires.kept c.requires.seat c.requires.goes c.requires.in_xact c.requires.statement (sym c.used_name.ensures ∙ ap (option_map (λ (n : Bor (List ℕ)). n.now)) c.unwrap-name.ensures) in
+    let u = uses_of c.args.terms.now (parts_of c.args.machine.now) c.args.session c.args.state c.args.xact c.args.statement.now c.unwrap-name.result.now c.requires.kept c.requires.state c.requires.goes c.requires.in_xact c.requires.statement (sym c.used_name.ensures ∙ ap (option_map (λ (n : Bor (List ℕ)). n.now)) c.unwrap-name.ensures) in
     missing _ _ _ _ _ _ _ _ u (none_of (parts_of c.args.machine.now) c.args.xact c.unwrap-name.result.now c.deref-2.result.now c.deref.result.now c.deref-2.ensures.value c.deref.ensures.value c.in_default.ensures.none)
 
 pub ask-requires-clause-lacks : goal.ask-requires-clause-lacks
 ask-requires-clause-lacks g c =
-    let u = uses_of c.args.terms.now (parts_of c.args.machine.now) c.args.session c.args.seat c.args.xact c.args.statement.now c.unwrap-name.result.now c.requires.kept c.requires.seat c.requires.goes c.requires.in_xact c.requires.statement (sym c.used_name.ensures ∙ ap (option_map (λ (n : Bor (List ℕ)). n.now)) c.unwrap-name.ensures) in
+    let u = uses_of c.args.terms.now (parts_of c.args.machine.now) c.args.session c.args.state c.args.xact c.args.statement.now c.unwrap-name.result.now c.requires.kept c.requires.state c.requires.goes c.requires.in_xact c.requires.statement (sym c.used_name.ensures ∙ ap (option_map (λ (n : Bor (List ℕ)). n.now)) c.unwrap-name.ensures) in
     let found = found_of (parts_of c.args.machine.now) c.args.xact c.unwrap-name.result.now c.deref-2.result.now c.deref.result.now c.in-Some.at c.deref-2.ensures.value c.deref.ensures.value c.in-Some.ensures.found in
     let there = there_of c.deref-2.result.now c.args.machine.now.tables.items c.in-Some.at c.index.result.now c.deref-2.ensures.value c.in-Some.ensures.within c.index.ensures in
     let none : holds c.args.machine.now.locks.locks c.args.session c.index.result.now.number (mode_of c.args.statement.now) ≡ false = rw c.mode_of-mode.ensures at (not_held _ (sym c.lacks.ensures ∙ c.if-lacks.true)) in
@@ -26,7 +26,7 @@ refuse-requires-clause-amid g c = rw (over_uncut _ _ _ _ (sym c.in-Some-2.is ∙
 
 pub refuse-requires-clause-refused : goal.refuse-requires-clause-refused
 refuse-requires-clause-refused g c =
-    let u = uses_of c.args.terms.now (parts_of c.args.machine.now) c.args.session c.args.seat c.args.xact c.args.statement.now c.unwrap-name.result.now c.requires.kept c.requires.seat c.requires.goes c.requires.in_xact c.requires.statement (sym c.used_name.ensures ∙ ap (option_map (λ (n : Bor (List ℕ)). n.now)) c.unwrap-name.ensures) in
+    let u = uses_of c.args.terms.now (parts_of c.args.machine.now) c.args.session c.args.state c.args.xact c.args.statement.now c.unwrap-name.result.now c.requires.kept c.requires.state c.requires.goes c.requires.in_xact c.requires.statement (sym c.used_name.ensures ∙ ap (option_map (λ (n : Bor (List ℕ)). n.now)) c.unwrap-name.ensures) in
     let found = found_of (parts_of c.args.machine.now) c.args.xact c.unwrap-name.result.now c.deref-2.result.now c.deref.result.now c.in-Some.at c.deref-2.ensures.value c.deref.ensures.value c.in-Some.ensures.found in
     let there = there_of c.deref-2.result.now c.args.machine.now.tables.items c.in-Some.at c.index.result.now c.deref-2.ensures.value c.in-Some.ensures.within c.index.ensures in
     let locked : holds c.args.machine.now.locks.locks c.args.session c.index.result.now.number (mode_of c.args.statement.now) ≡ true = rw c.mode_of-mode.ensures at (is_held_so _ (sym c.lacks.ensures ∙ c.if-lacks.false)) in
@@ -34,7 +34,7 @@ refuse-requires-clause-refused g c =
 
 pub act-requires-clause-locked : goal.act-requires-clause-locked
 act-requires-clause-locked g c =
-    let u = uses_of c.args.terms.now (parts_of c.args.machine.now) c.args.session c.args.seat c.args.xact c.args.statement.now c.unwrap-name.result.now c.requires.kept c.requires.seat c.requires.goes c.requires.in_xact c.requires.statement (sym c.used_name.ensures ∙ ap (option_map (λ (n : Bor (List ℕ)). n.now)) c.unwrap-name.ensures) in
+    let u = uses_of c.args.terms.now (parts_of c.args.machine.now) c.args.session c.args.state c.args.xact c.args.statement.now c.unwrap-name.result.now c.requires.kept c.requires.state c.requires.goes c.requires.in_xact c.requires.statement (sym c.used_name.ensures ∙ ap (option_map (λ (n : Bor (List ℕ)). n.now)) c.unwrap-name.ensures) in
     let found = found_of (parts_of c.args.machine.now) c.args.xact c.unwrap-name.result.now c.deref-2.result.now c.deref.result.now c.in-Some.at c.deref-2.ensures.value c.deref.ensures.value c.in-Some.ensures.found in
     let there = there_of c.deref-2.result.now c.args.machine.now.tables.items c.in-Some.at c.index.result.now c.deref-2.ensures.value c.in-Some.ensures.within c.index.ensures in
     let locked : holds c.args.machine.now.locks.locks c.args.session c.index.result.now.number (mode_of c.args.statement.now) ≡ true = rw c.mode_of-mode.ensures at (is_held_so _ (sym c.lacks.ensures ∙ c.if-lacks.false)) in

@@ -17,7 +17,7 @@ pass-requires-clause-few c = rw c.out_of_block.ensures c.end_xact.ensures.over.i
 pub returns-clause-kept : goal.returns-clause-kept
 returns-clause-kept c =
     let m = c.end_xact.new.machine in
-    passed_kept _ _ _ _ _ _ _ _ _ c.end_xact.ensures.over (parts_of (record { journal = c.note.new.self; sessions = m.sessions; tables = m.tables; locks = m.locks; committed = m.committed; weight = m.weight })) _ _ blocks.Outside (end_closes c.args.seat c.args.commits) c.out_of_block.ensures (rw c.end_tag-tag.ensures at c.note.ensures.past) c.note.ensures.room refl refl refl refl refl c.pass.ensures.past c.pass.ensures.room c.pass.ensures.sessions c.pass.ensures.tables c.pass.ensures.locks c.pass.ensures.committed c.pass.ensures.weight
+    passed_kept _ _ _ _ _ _ _ _ _ c.end_xact.ensures.over (parts_of (record { journal = c.note.new.self; sessions = m.sessions; tables = m.tables; locks = m.locks; committed = m.committed; weight = m.weight })) _ _ blocks.Outside (end_closes c.args.state c.args.commits) c.out_of_block.ensures (rw c.end_tag-tag.ensures at c.note.ensures.past) c.note.ensures.room refl refl refl refl refl c.pass.ensures.past c.pass.ensures.room c.pass.ensures.sessions c.pass.ensures.tables c.pass.ensures.locks c.pass.ensures.committed c.pass.ensures.weight
 
 pub returns-clause-went : goal.returns-clause-went
 returns-clause-went c = passed_went _ _ _ _ _ _ _ _ _ c.end_xact.ensures.over _ (rw (c.note.ensures.past, c.end_tag-tag.ensures, c.out_of_block.ensures) at c.pass.ensures.past)

@@ -6,10 +6,10 @@ use Rattle.al_engine.proofs.TurnLemmas.{block_there}
 use Rattle.al_engine.proofs.turns.go_on.Goals as goal
 
 pub script_at-requires : goal.script_at-requires
-script_at-requires g c = block_there _ (parts_of c.args.machine.now) _ _ c.requires.kept c.requires.seat c.requires.goes
+script_at-requires g c = block_there _ (parts_of c.args.machine.now) _ _ c.requires.kept c.requires.state c.requires.goes
 
 pub refuse-requires-clause-amid : goal.refuse-requires-clause-amid
 refuse-requires-clause-amid g c = rw (text_uses c.in-Err.fault c.text_cause.result (sym c.text_cause.ensures)) (amid_begins _ _ _ c.requires.kept)
 
 pub refuse-requires-clause-refused : goal.refuse-requires-clause-refused
-refuse-requires-clause-refused g c = text_refused _ (parts_of c.args.machine.now) _ _ c.in-Err.fault c.text_cause.result c.requires.kept c.requires.seat c.requires.goes (c.script_at.ensures.fault ∙ rw c.in-Err.is refl) (sym c.text_cause.ensures)
+refuse-requires-clause-refused g c = text_refused _ (parts_of c.args.machine.now) _ _ c.in-Err.fault c.text_cause.result c.requires.kept c.requires.state c.requires.goes (c.script_at.ensures.fault ∙ rw c.in-Err.is refl) (sym c.text_cause.ensures)

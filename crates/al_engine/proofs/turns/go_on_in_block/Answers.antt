@@ -7,4 +7,4 @@ pub refuse-requires-clause-amid : goal.refuse-requires-clause-amid
 refuse-requires-clause-amid g c = amid_begins _ _ _ c.requires.kept
 
 pub refuse-requires-clause-refused : goal.refuse-requires-clause-refused
-refuse-requires-clause-refused g c = failed_refused _ (parts_of c.args.machine.now) _ _ _ _ c.requires.kept c.requires.seat c.requires.goes c.requires.statement c.requires.goes_on c.in-Failed.is
+refuse-requires-clause-refused g c = failed_refused _ (parts_of c.args.machine.now) _ _ _ _ c.requires.kept c.requires.state c.requires.goes c.requires.statement c.requires.goes_on c.in-Failed.is

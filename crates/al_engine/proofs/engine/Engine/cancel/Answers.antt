@@ -14,8 +14,8 @@ refuse-requires-clause-amid c =
     let busy = is_busy _ _ c.self.invariant _ _ there (sym c.if-is_some.ensures) in
     cancel_amid _ _ _ _ _ c.self.invariant there busy.1 c.note.new.self c.note.ensures.past c.note.ensures.room
 
-pub refuse-requires-clause-seat : goal.refuse-requires-clause-seat
-refuse-requires-clause-seat c = got _ _ c.self.invariant _ c.index.result.now (rw (← c.self.view_is) at c.requires.known) c.index.ensures
+pub refuse-requires-clause-state : goal.refuse-requires-clause-state
+refuse-requires-clause-state c = got _ _ c.self.invariant _ c.index.result.now (rw (← c.self.view_is) at c.requires.known) c.index.ensures
 
 pub refuse-requires-clause-refused : goal.refuse-requires-clause-refused
 refuse-requires-clause-refused c =

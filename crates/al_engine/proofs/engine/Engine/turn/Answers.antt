@@ -13,8 +13,8 @@ returns-then-is_held_up-clause-ok g c =
     let there = got _ _ c.self.invariant _ c.index.result.now (rw (← c.self.view_is) at c.requires.known) c.index.ensures in
     rw (← c.self.view_is) (waits_by _ _ c.self.invariant _ _ there c.if-is_none.ensures (sym (rw c.deref.ensures.value at c.if-is_held_up.ensures)))
 
-pub go_on-requires-clause-seat : goal.go_on-requires-clause-seat
-go_on-requires-clause-seat g c = got _ _ c.self.invariant _ c.index.result.now (rw (← c.self.view_is) at c.requires.known) c.index.ensures
+pub go_on-requires-clause-state : goal.go_on-requires-clause-state
+go_on-requires-clause-state g c = got _ _ c.self.invariant _ c.index.result.now (rw (← c.self.view_is) at c.requires.known) c.index.ensures
 
 pub go_on-requires-clause-goes : goal.go_on-requires-clause-goes
 go_on-requires-clause-goes g c =
