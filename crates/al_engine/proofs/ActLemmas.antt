@@ -1,6 +1,6 @@
 -- INSERT, SELECT and ALTER TABLE act on the table that they have locked.
 use Rattle.std.proofs.Common.{◌≡◌, ℕ, ◌+◌, List, [], ◌∷◌, ◌++◌, length, refl, sym, ap, cond, true, false, Bool, Option, Some, None, arith, ◌∙◌, slice_get, slice_set, option_map, map}
-use Rattle.std.specs.Prelude.{Ok, Err, nat_lt}
+use Rattle.std.specs.Prelude.{nat_lt}
 use Rattle.al_values.specs.declared.scalar.Value.{Value}
 use Rattle.al_modes.specs.declared.mode.Mode.TheVariants.{AccessShare, RowExclusive, AccessExclusive}
 use Rattle.al_queue.specs.Waits.{holds}

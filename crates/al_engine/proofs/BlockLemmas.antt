@@ -1,9 +1,9 @@
 -- BEGIN, COMMIT and ROLLBACK are done, and other statements are refused in a failed block.
-use Rattle.std.proofs.Common.{◌≡◌, ℕ, ◌+◌, ◌<◌, ◌≤◌, List, [], ◌∷◌, length, refl, sym, ap, cond, true, false, Bool, Option, Some, None, arith, ◌∙◌, inl, inr, slice_get, slice_set}
+use Rattle.std.proofs.Common.{◌≡◌, ℕ, ◌+◌, ◌<◌, ◌≤◌, List, [], ◌∷◌, length, refl, ap, cond, true, false, Bool, Option, Some, None, arith, ◌∙◌, inl, inr, slice_get, slice_set}
 use Rattle.std.specs.Prelude.{IsSome}
 use Rattle.al_history.specs.declared.entry.Cause.TheVariants as causes
 use Rattle.al_history.specs.declared.entry.Entry.{Entry}
-use Rattle.al_history.specs.declared.entry.Entry.TheVariants.{Done, Commit, Abort, End}
+use Rattle.al_history.specs.declared.entry.Entry.TheVariants.{Done, Commit, Abort}
 use Rattle.al_history.specs.declared.entry.Reply.{Reply}
 use Rattle.al_history.specs.declared.entry.Reply.TheVariants as replies
 use Rattle.al_history.specs.declared.entry.Tag.TheVariants as tags
@@ -11,18 +11,17 @@ use Rattle.al_history.specs.declared.statement.Statement.{Statement}
 use Rattle.al_history.specs.declared.statement.Statement.TheVariants as statements
 use Rattle.al_history.specs.declared.statement.Terms.{Terms}
 use Rattle.al_history.specs.Past.{Past, past_of}
-use Rattle.al_history.specs.Hand.{BlockState, NoBlock, OpenBlock, FailedBlock, hand, in_hand, statement_of, xact_of, implicit_of, if_no_block, block_state, block_after, opened}
+use Rattle.al_history.specs.Hand.{BlockState, NoBlock, OpenBlock, FailedBlock, hand, statement_of, xact_of, if_no_block, block_state, block_after, opened}
 use Rattle.al_history.specs.Locks.{is_settled}
 use Rattle.al_history.specs.Tail.{owed}
 use Rattle.al_history.specs.Waits.{can_go_on}
 use Rattle.al_history.specs.Rules.{starts, Answers, commit_tag}
 use Rattle.al_history.specs.Cause.{block_cause}
-use Rattle.al_history.specs.Legal.{Legal, MayCome}
+use Rattle.al_history.specs.Legal.{MayCome}
 use Rattle.al_history.specs.Whole.{driver, IsLeast}
 use Rattle.al_history.proofs.Doings.{Doing, doing, moved, own_moves, IsXact, IsBy}
-use Rattle.al_history.proofs.Comes.{comes, cause_free, comes_done, comes_commit, comes_abort}
-use Rattle.al_history.proofs.Pasts.{if_same}
-use Rattle.al_history.proofs.Turns.{Tail, Went, stage_begins, tail_begins, tail_commit, tail_abort, tail_done, tail_on, tail_ends}
+use Rattle.al_history.proofs.Comes.{cause_free, comes_done, comes_commit, comes_abort}
+use Rattle.al_history.proofs.Turns.{Tail, stage_begins, tail_begins, tail_commit, tail_abort, tail_done, tail_on}
 use Rattle.al_history.proofs.Xacts.{xact_is}
 use Rattle.al_queue.specs.declared.grant.Grant.{Grant}
 use Rattle.al_queue.specs.Walk.{released}
@@ -31,10 +30,10 @@ use Rattle.al_engine.specs.declared.sessions.Session.{Session}
 use Rattle.al_engine.specs.declared.sessions.Block.{Block}
 use Rattle.al_engine.specs.declared.sessions.Block.TheVariants as blocks
 use Rattle.al_engine.specs.LockTie.{locked_by, is_granted}
-use Rattle.al_engine.specs.Sessions.{xact_in, woken, IsMirror, state_of, light_of, light}
+use Rattle.al_engine.specs.Sessions.{xact_in, woken, state_of, light_of, light}
 use Rattle.al_engine.specs.Kept.{Parts, IsAmid, IsKept, CanBeRefused}
 use Rattle.al_engine.specs.Ended.{IsLast, stopped, onward, IsOver, end_reply, IsEnded}
-use Rattle.al_engine.proofs.Amid.{amid_begins, amid_notes, commit_comes, abort_comes, amid_commits, amid_aborts, amid_stops, still_done, still_end}
+use Rattle.al_engine.proofs.Amid.{amid_begins, commit_comes, abort_comes, amid_commits, amid_aborts}
 use Rattle.al_engine.proofs.FailedBlocks.{open_unfailed}
 use Rattle.al_engine.proofs.Grants.{HaveCome, settled_then}
 use Rattle.al_engine.proofs.LockLists.{leaves_so}

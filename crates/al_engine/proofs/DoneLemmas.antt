@@ -7,7 +7,7 @@ use Rattle.al_history.specs.declared.statement.Terms.{Terms}
 use Rattle.al_history.specs.Kept.{Kept}
 use Rattle.al_history.specs.Past.{Past, past_of}
 use Rattle.al_history.specs.Hand.{in_hand, statement_of, xact_of, implicit_of, if_no_block, fault_of, acts_of}
-use Rattle.al_history.specs.Locks.{waiting, is_settled}
+use Rattle.al_history.specs.Locks.{is_settled}
 use Rattle.al_history.specs.Made.{row_entries}
 use Rattle.al_history.specs.Tail.{commit_or_end, owed}
 use Rattle.al_history.specs.Legal.{Legal, MayCome}
@@ -21,7 +21,7 @@ use Rattle.al_queue.specs.Settled.{IsSettled, HandsOn}
 use Rattle.al_engine.specs.declared.sessions.Block.{Block}
 use Rattle.al_engine.specs.declared.sessions.Block.TheVariants as blocks
 use Rattle.al_engine.specs.declared.sessions.Session.{Session}
-use Rattle.al_engine.specs.LockTie.{asks, locked_by, is_granted}
+use Rattle.al_engine.specs.LockTie.{locked_by, is_granted}
 use Rattle.al_engine.specs.Sessions.{xact_in, woken, state_of, IsMirror, of_xact, of_step, light_of, IsCounted, script_length, of_hand}
 use Rattle.al_engine.specs.Kept.{Parts, IsSound, IsAmid, IsClear, IsKept, CanBeDone}
 use Rattle.al_engine.proofs.Amid.{still_done, still_end, amid_notes, commit_comes, amid_commits, amid_stops}
@@ -31,7 +31,6 @@ use Rattle.al_engine.proofs.Mirrors.{calm, calm_none, doing_granted, unasked_idl
 use Rattle.al_engine.proofs.SessionLemmas.{light_at}
 use Rattle.al_engine.proofs.Tails.{tail_by_done, tail_granted, rows_granted}
 use Rattle.al_engine.proofs.Woken.{calmed, woken_get}
-use Rattle.al_history.specs.Waits.{can_go_on}
 use Rattle.al_history.proofs.Implicit.{unfaulted}
 use Rattle.al_engine.specs.Ended.{IsOver}
 use Rattle.al_engine.proofs.TurnLemmas.{statement_beyond}
@@ -166,7 +165,7 @@ step_three None left = omega arith
 step_three (Some x) left = omega arith
 
 -- it is done, and its step goes on or ends
-pub over_by_done : (terms : Terms) (p : Parts) (s block : ℕ) (t : Session) (reply : Reply) → IsAmid terms p s 0 → IsClear terms (past_of p.journal) → slice_get p.sessions s ≡ Some t → CanBeDone terms (past_of p.journal) s t reply → t.hand ≡ Some block  → (t.left ≤ 1 → if_no_block (state_of t.block) t.xact ≡ None) → IsOver terms p s 0 t t (past_of p.journal) t.xact reply
+pub over_by_done : (terms : Terms) (p : Parts) (s block : ℕ) (t : Session) (reply : Reply) → IsAmid terms p s 0 → IsClear terms (past_of p.journal) → slice_get p.sessions s ≡ Some t → CanBeDone terms (past_of p.journal) s t reply → t.hand ≡ Some block → (t.left ≤ 1 → if_no_block (state_of t.block) t.xact ≡ None) → IsOver terms p s 0 t t (past_of p.journal) t.xact reply
 over_by_done terms p s block t reply amid clear there done busy within =
     let start : Past = past_of p.journal in
     let comes_so : MayCome terms start (Done s reply) = done_comes terms start s block t reply amid.sound.legal clear done busy in

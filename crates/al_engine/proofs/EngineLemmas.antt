@@ -1,7 +1,6 @@
 -- What the engine keeps through each of its calls, and what contracts see of them.
-use Rattle.std.proofs.Common.{◌≡◌, ℕ, suc, zero, ◌+◌, ◌<◌, ◌≤◌, List, [], ◌∷◌, length, refl, sym, ap, subst, cond, true, false, Bool, Option, Some, None, arith, ◌∙◌, slice_get, slice_set, option_map, replicate, inl, inr, ◌-◌, ◌^◌}
-use Rattle.std.specs.Prelude.{◌==◌, IsSome, is_some, get_or}
-use Rattle.std.specs.List.{AllByRecursion}
+use Rattle.std.proofs.Common.{◌≡◌, ℕ, suc, zero, ◌+◌, ◌<◌, ◌≤◌, [], ◌∷◌, length, refl, sym, ap, cond, true, false, Bool, Option, Some, None, arith, ◌∙◌, slice_get, slice_set, option_map, replicate, inl, inr, ◌-◌, ◌^◌}
+use Rattle.std.specs.Prelude.{◌==◌, is_some, get_or}
 use Rattle.std.proofs.lemmas.Bool.{ne_eqb}
 use Rattle.std.proofs.lemmas.Option.{slice_get_within, slice_get_read}
 use Rattle.al_history.specs.declared.entry.Cause.TheVariants as causes

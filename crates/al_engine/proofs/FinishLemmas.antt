@@ -1,6 +1,6 @@
 -- A step without a statement ends, and one whose text is no script is refused.
-use Rattle.std.proofs.Common.{◌≡◌, ℕ, ◌+◌, ◌<◌, ◌≤◌, List, [], ◌∷◌, length, refl, sym, ap, true, false, Bool, Option, Some, None, arith, ◌∙◌, inl, slice_get, slice_set}
-use Rattle.std.specs.Prelude.{IsSome, option_and_then}
+use Rattle.std.proofs.Common.{◌≡◌, ℕ, ◌+◌, ◌<◌, ◌≤◌, ◌∷◌, refl, sym, ap, true, false, Option, Some, None, arith, ◌∙◌, inl, slice_get, slice_set}
+use Rattle.std.specs.Prelude.{IsSome}
 use Rattle.al_history.specs.declared.entry.Cause.{Cause}
 use Rattle.al_history.specs.declared.entry.Cause.TheVariants as causes
 use Rattle.al_history.specs.declared.entry.Entry.TheVariants.{End}
@@ -14,7 +14,7 @@ use Rattle.al_history.specs.Cause.{text_cause}
 use Rattle.al_history.specs.Legal.{MayCome}
 use Rattle.al_history.specs.Whole.{driver, IsLeast}
 use Rattle.al_history.proofs.Comes.{cause_free, comes_end}
-use Rattle.al_history.proofs.Doings.{Doing, doing, own_moves}
+use Rattle.al_history.proofs.Doings.{doing, own_moves}
 use Rattle.al_history.proofs.Implicit.{implicit_first}
 use Rattle.al_history.proofs.Pasts.{if_same}
 use Rattle.al_history.proofs.Turns.{Went, extends_by}

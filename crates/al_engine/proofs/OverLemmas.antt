@@ -1,8 +1,7 @@
 -- A statement is done: its step goes on with the next one, or ends.
-use Rattle.std.proofs.Common.{◌≡◌, ℕ, ◌+◌, ◌-◌, ◌<◌, ◌≤◌, List, [], ◌∷◌, length, refl, sym, ap, cond, true, false, Bool, Option, Some, None, arith, ◌∙◌, inl, inr, slice_get, slice_set}
+use Rattle.std.proofs.Common.{◌≡◌, ℕ, ◌+◌, ◌<◌, ◌≤◌, List, ◌∷◌, length, refl, sym, cond, true, false, Bool, Option, Some, None, arith, ◌∙◌, inl, slice_set}
 use Rattle.std.specs.Prelude.{IsSome, nat_lt}
 use Rattle.std.proofs.lemmas.Bool.{ltb-true, ltb-false}
-use Rattle.al_history.specs.declared.entry.Entry.{Entry}
 use Rattle.al_history.specs.declared.entry.Entry.TheVariants.{Done, End}
 use Rattle.al_history.specs.declared.entry.Reply.{Reply}
 use Rattle.al_history.specs.declared.statement.Statement.{Statement}
@@ -17,10 +16,10 @@ use Rattle.al_history.proofs.Doings.{doing}
 use Rattle.al_history.proofs.Comes.{comes}
 use Rattle.al_history.proofs.Implicit.{unfaulted}
 use Rattle.al_history.proofs.Pasts.{if_same}
-use Rattle.al_history.proofs.Turns.{Tail, Went, tail_ends, tail_goes}
+use Rattle.al_history.proofs.Turns.{Went, tail_ends, tail_goes}
 use Rattle.al_engine.specs.declared.sessions.Session.{Session}
 use Rattle.al_engine.specs.declared.sessions.Block.{Block}
-use Rattle.al_engine.specs.Sessions.{IsCounted, IsMirror, script_length, state_of, light_of, light}
+use Rattle.al_engine.specs.Sessions.{IsMirror, script_length, state_of, light}
 use Rattle.al_engine.specs.Kept.{Parts, IsAmid, IsKept}
 use Rattle.al_engine.specs.Ended.{stopped, onward, passed, IsOver}
 use Rattle.al_engine.proofs.Amid.{amid_notes, amid_stops, still_done, still_end}

@@ -1,11 +1,10 @@
 -- Who waits for a lock is blocked, and others' entries leave that so.
-use Rattle.std.proofs.Common.{◌≡◌, ℕ, List, [], ◌∷◌, ◌++◌, refl, sym, ap, cond, true, false, Bool, Option, Some, None, ◌∙◌, ◌⊎◌, inl, inr}
+use Rattle.std.proofs.Common.{◌≡◌, ℕ, List, [], ◌∷◌, refl, sym, ap, cond, true, false, Bool, Some, None, ◌∙◌, ◌⊎◌, inl, inr}
 use Rattle.std.specs.Prelude.{◌==◌}
 use Rattle.std.specs.List.{list_any}
 use Rattle.std.proofs.lemmas.Bool.{eq-eqb, eqb-true, or_cases, or_left, or_right, not-true, not_from_false}
 use Rattle.al_modes.specs.declared.mode.Mode.{Mode}
 use Rattle.al_queue.specs.Locks.{Locks}
-use Rattle.al_history.specs.declared.entry.Want.{Want}
 use Rattle.al_history.specs.declared.entry.Want.TheVariants as wants
 use Rattle.al_history.specs.declared.entry.Entry.{Entry}
 use Rattle.al_history.specs.declared.entry.Entry.TheVariants.{Wait, Lock, Commit, Abort}
@@ -15,7 +14,7 @@ use Rattle.al_history.specs.Hand.{session_of}
 use Rattle.al_history.specs.Locks.{Claim, claim, same_claim, without, waiting, grantable, is_settled, is_held}
 use Rattle.al_history.specs.Made.{made_by}
 use Rattle.al_history.specs.Waits.{wanted_by, is_blocked}
-use Rattle.al_history.proofs.Claims.{claim_itself, true_of_none, held_push, held_still, held_left, held_besides}
+use Rattle.al_history.proofs.Claims.{claim_itself, true_of_none, held_push, held_left}
 use Rattle.al_history.proofs.Xacts.{turn}
 use Rattle.al_engine.specs.LockTie.{asks, WantsSo, OthersWant, locked_by}
 use Rattle.al_engine.proofs.Grants.{HaveCome}

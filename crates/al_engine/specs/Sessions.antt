@@ -1,5 +1,5 @@
 -- What is kept of the sessions, and what it stands for.
-use Rattle.std.specs.Prelude.{◌≡◌, ℕ, ◌+◌, ◌*◌, ◌^◌, max, length, Result, Ok, Err, ◌<◌, ◌&&◌, Bool, true, false, not, cond, List, [], ◌∷◌, map, slice_get, slice_set, Option, Some, None, IsSome, is_some, option_and_then, unwrap_or}
+use Rattle.std.specs.Prelude.{◌≡◌, ℕ, ◌+◌, ◌*◌, ◌^◌, max, length, Result, Ok, Err, ◌<◌, ◌&&◌, Bool, true, false, not, cond, List, [], ◌∷◌, map, slice_get, slice_set, Option, Some, None, is_some, option_and_then, unwrap_or}
 use Rattle.std.specs.List.{list_any}
 use Rattle.al_history.specs.declared.entry.Want.{Want}
 use Rattle.al_history.specs.declared.entry.Want.TheVariants as wants

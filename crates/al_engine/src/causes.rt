@@ -5,8 +5,8 @@ ghost use Rattle.al_history.specs.declared.statement.Statement.TheVariants as st
 ghost use Rattle.al_history.specs.Store.{shown};
 ghost use Rattle.al_engine.specs.Stored.{all_kept, seen_by, of_columns};
 
-use crate::weights::plus;
 use crate::stored::{Reader, StoredTable, has_column, position_of};
+use crate::weights::plus;
 use al_history::{Cause, Column, RunLimit};
 use al_values::{Copied, Name, NoMemory, count_of};
 use std::alloc::Global;

@@ -169,7 +169,14 @@ pub fn done(_terms: &Terms, machine: &mut Machine, session: u32, state: Session,
         machine.sessions[session as usize] = next_statement(state);
     } else if let (Block::Outside, Some(xact)) = (state.block, state.xact) {
         commit(machine, session, xact);
-        end_step(machine, session, Session { xact: None, ..state });
+        end_step(
+            machine,
+            session,
+            Session {
+                xact: None,
+                ..state
+            },
+        );
     } else {
         end_step(machine, session, state);
     }

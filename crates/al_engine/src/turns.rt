@@ -121,7 +121,9 @@ fn go_on_in_block<L: Ledger>(
         return Ok(true);
     }
     match state.xact {
-        Some(xact) => run(alloc, terms, machine, session, state, xact, statement, steps),
+        Some(xact) => run(
+            alloc, terms, machine, session, state, xact, statement, steps,
+        ),
         None => {
             begin(terms, machine, session, state)?;
             Ok(false)
@@ -163,7 +165,9 @@ fn run<L: Ledger>(
             alloc, terms, machine, session, state, xact, table, columns,
         ),
         Statement::Insert { .. } | Statement::Select { .. } | Statement::AddColumn { .. } => {
-            use_table(alloc, terms, machine, session, state, xact, statement, steps)
+            use_table(
+                alloc, terms, machine, session, state, xact, statement, steps,
+            )
         }
     }
 }
@@ -180,7 +184,12 @@ fn script_at(terms: &Terms, state: Session) -> &Result<Script, SqlFault>
 }
 
 /// A transaction begins.
-fn begin(_terms: &Terms, machine: &mut Machine, session: u32, state: Session) -> Result<(), NoMemory>
+fn begin(
+    _terms: &Terms,
+    machine: &mut Machine,
+    session: u32,
+    state: Session,
+) -> Result<(), NoMemory>
     requires known { session < _terms.now.scripts.sessions }
     requires kept { IsKept _terms.now (parts_of machine.old) }
     requires state { slice_get machine.old.sessions.items session ≡ Some state }

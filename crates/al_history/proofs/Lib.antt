@@ -27,6 +27,7 @@ pub mod VectorsNames
 pub mod VectorsQueues
 pub mod VectorsRefused
 pub mod VectorsRules
+pub mod VectorsSessions
 pub mod VectorsTurns
 pub mod VectorsViews
 pub mod VectorsWhole

@@ -1,4 +1,4 @@
-use Rattle.std.proofs.Common.{arith, refl, ◌∙◌, ap}
+use Rattle.std.proofs.Common.{arith, refl}
 use Rattle.al_engine.specs.Kept.{parts_of}
 use Rattle.al_engine.proofs.BlockLemmas.{begin_over}
 use Rattle.al_engine.proofs.OverLemmas.{over_room, passed_kept, passed_went}

@@ -1,6 +1,6 @@
 use Rattle.std.proofs.lemmas.Result.{err_from_is_err_and}
-use Rattle.std.proofs.Common.{◌∙◌, rules, arith, sym, refl}
-use Rattle.al_engine.proofs.EngineLemmas.{got, hand_is, is_busy, is_idle, none_of, give_keeps}
+use Rattle.std.proofs.Common.{◌∙◌, rules, arith, sym}
+use Rattle.al_engine.proofs.EngineLemmas.{got, hand_is, is_idle, none_of, give_keeps}
 use Rattle.al_engine.proofs.engine.Engine.give.Goals as goal
 
 pub returns-then-is_some-clause-busy : goal.returns-then-is_some-clause-busy
