@@ -1,16 +1,17 @@
 -- The tokens of a spec file's text: none is open.
-use Rattle.std.proofs.Common.{◌≡◌, ℕ, Bool, true, false, List, [], ◌∷◌, Some, refl, sym, subst, inl, inr}
+use Rattle.std.proofs.Common.{◌≡◌, ℕ, Bool, true, false, List, [], ◌∷◌, Option, Some, None, refl, sym, subst, inl, inr}
 use Rattle.std.specs.Prelude.{if◌then◌else◌, bytes_eq, codes, slice_range}
 use Rattle.al_grammar.specs.Kinds.{among}
 use Rattle.al_grammar.proofs.FirstTokens.{clash}
 use Rattle.al_grammar.proofs.Every.{Every, Keeps, every_append, every_split, keeps_leaf, keeps_pair, keeps_optional, keeps_many}
+use Rattle.al_spec.specs.declared.kinds.Word.{Word}
 use Rattle.al_spec.specs.declared.kinds.Word.TheVariants as words
 use Rattle.al_spec.specs.declared.kinds.Kind.{Kind}
 use Rattle.al_spec.specs.declared.kinds.Kind.TheVariants as kinds
 use Rattle.al_spec.specs.declared.kinds.Lexeme.{Lexeme}
 use Rattle.al_spec.specs.declared.kinds.Lexeme.TheVariants as lexemes
 use Rattle.al_spec.specs.declared.kinds.Token.{Token}
-use Rattle.al_spec.specs.Tokens.{plain, IsToken, Reads, here, gap, token, Tail, whole, open_name, open_block, bad_name, paren, stray, AreTokens}
+use Rattle.al_spec.specs.Tokens.{word_of, word_or_name, plain, IsToken, Reads, here, gap, token, Tail, whole, open_name, open_block, bad_name, paren, stray, AreTokens}
 use Rattle.al_spec.specs.Grammar.{kind_of, number, name_in, text_in, word, name, block, block_after, step, step_of, steps, session_end, session_parts, session_of, session, sessions, permutation, bodies, late, file, file_of, File}
 
 -- a token that some rule takes
@@ -86,17 +87,12 @@ NotOpen other = Unit {0}
 abbrev pub IsKnown : Token → Type 0
 IsKnown t = NotOpen t.lexeme
 
-by_tests : (a b c d e : Bool) (bs : List ℕ) → NotOpen (if a then lexemes.Word words.Setup else (if b then lexemes.Word words.Teardown else (if c then lexemes.Word words.Session else (if d then lexemes.Word words.Step else (if e then lexemes.Word words.Permutation else lexemes.Name bs)))))
-by_tests true b c d e bs = tt
-by_tests false true c d e bs = tt
-by_tests false false true d e bs = tt
-by_tests false false false true e bs = tt
-by_tests false false false false true bs = tt
-by_tests false false false false false bs = tt
+known_by : (o : Option Word) (bs : List ℕ) → NotOpen (word_or_name o bs)
+known_by (Some w) bs = tt
+known_by None bs = tt
 
 known_plain : (bs : List ℕ) → NotOpen (plain bs)
-unfolding plain
-known_plain bs = by_tests (bytes_eq bs (codes "setup")) (bytes_eq bs (codes "teardown")) (bytes_eq bs (codes "session")) (bytes_eq bs (codes "step")) (bytes_eq bs (codes "permutation")) bs
+known_plain bs = known_by (word_of bs) bs
 
 known_token : (text : List ℕ) (i end : ℕ) (l : Lexeme) → IsToken text i end l → NotOpen l
 known_token text i end l (inl a) = subst (λ (x : Lexeme). NotOpen x) (sym a.means) (known_plain (slice_range text i end))

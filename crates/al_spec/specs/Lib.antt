@@ -2,5 +2,6 @@ pub mod Bytes
 pub mod Tokens
 pub mod Grammar
 pub mod Notes
+pub mod Owned
 pub mod Indexed
 pub mod Files

@@ -1,5 +1,7 @@
 -- The tokens of a spec file.
-use Rattle.std.specs.Prelude.{◌≡◌, ℕ, ◌+◌, ◌<◌, ◌≤◌, ◌⊎◌, List, [], ◌∷◌, ◌++◌, length, slice_range, bytes_eq, codes, IsCharBoundary, if◌then◌else◌}
+use Rattle.std.specs.Prelude.{◌≡◌, ℕ, ◌+◌, ◌<◌, ◌≤◌, ◌⊎◌, Bool, false, ◌&&◌, List, [], ◌∷◌, ◌++◌, length, Option, Some, None, is_none, slice_range, bytes_eq, codes, IsCharBoundary, if◌then◌else◌}
+use Rattle.std.specs.List.{list_all}
+use Rattle.al_spec.specs.declared.kinds.Word.{Word}
 use Rattle.al_spec.specs.declared.kinds.Word.TheVariants as words
 use Rattle.al_spec.specs.declared.kinds.Lexeme.{Lexeme}
 use Rattle.al_spec.specs.declared.kinds.Lexeme.TheVariants as lexemes
@@ -9,16 +11,30 @@ use Rattle.al_spec.specs.declared.lex.Quote.{Quote}
 use Rattle.al_spec.specs.declared.lex.Quote.TheVariants as quotes
 use Rattle.al_spec.specs.declared.lex.Piece.{Piece}
 use Rattle.al_spec.specs.declared.lex.Piece.TheVariants as pieces
-use Rattle.al_spec.specs.Bytes.{at, begun, Run, First, Quoted, cut}
+use Rattle.al_spec.specs.Bytes.{at, begins_name, goes_on, begun, Run, First, Quoted, cut}
+
+-- The word that a text is, where it is one of the five.
+unfoldable pub word_of : List ℕ → Option Word
+word_of bs =
+    if bytes_eq bs (codes "setup") then Some words.Setup else
+    (if bytes_eq bs (codes "teardown") then Some words.Teardown else
+    (if bytes_eq bs (codes "session") then Some words.Session else
+    (if bytes_eq bs (codes "step") then Some words.Step else
+    (if bytes_eq bs (codes "permutation") then Some words.Permutation else None))))
+
+-- a word, or else a name
+abbrev pub word_or_name : Option Word → List ℕ → Lexeme
+word_or_name (Some word) bs = lexemes.Word word
+word_or_name None bs = lexemes.Name bs
 
 -- One of the five words, or a name.
-unfoldable pub plain : List ℕ → Lexeme
-plain bs =
-    if bytes_eq bs (codes "setup") then lexemes.Word words.Setup else
-    (if bytes_eq bs (codes "teardown") then lexemes.Word words.Teardown else
-    (if bytes_eq bs (codes "session") then lexemes.Word words.Session else
-    (if bytes_eq bs (codes "step") then lexemes.Word words.Step else
-    (if bytes_eq bs (codes "permutation") then lexemes.Word words.Permutation else lexemes.Name bs))))
+abbrev pub plain : List ℕ → Lexeme
+plain bs = word_or_name (word_of bs) bs
+
+-- A plain identifier: a byte that begins a name, and bytes that go on one, other than the five words.
+abbrev pub is_plain : List ℕ → Bool
+is_plain [] = false
+is_plain (b ∷ bs) = begins_name b && (list_all goes_on bs && is_none (word_of (b ∷ bs)))
 
 -- What parts tokens: a blank, or a `#` with all up to the line feed (10) or the text's end.
 abbrev pub IsGap : List ℕ → ℕ → ℕ → Type 0

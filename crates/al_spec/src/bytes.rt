@@ -44,13 +44,15 @@ fn is_blank(byte: u8) -> bool
     is_cut(byte) || byte == b'\n'
 }
 
-fn begins_name(byte: u8) -> bool
+/// Whether a byte begins a plain name.
+pub fn begins_name(byte: u8) -> bool
     ensures { result ≡ begins_name byte }
 {
     byte.is_ascii_alphabetic() || byte == b'_' || 128 <= byte
 }
 
-fn goes_on(byte: u8) -> bool
+/// Whether a byte goes on a plain name.
+pub fn goes_on(byte: u8) -> bool
     ensures { result ≡ goes_on byte }
 {
     begins_name(byte) || byte.is_ascii_digit() || byte == b'$'

@@ -1,4 +1,5 @@
-use al_values::{ListOf, Name, Txt};
+use crate::lent::Lent;
+use al_values::ListOf;
 
 /// One of the five words, which are written in small letters.
 #[derive(Clone, Copy, Debug, PartialEq, Eq, Drop)]
@@ -11,14 +12,14 @@ pub enum Word {
 }
 
 /// What a token is.
-#[derive(Debug, Drop)]
-pub enum Lexeme {
+#[derive(Drop)]
+pub enum Lexeme<'a> {
     /// One of the five words.
     Word(Word),
     /// A name, plain or in double quotes.
-    Name(Name),
+    Name(Lent<'a>),
     /// A block, with its text cut of blanks at both ends.
-    Block(Txt),
+    Block(Lent<'a>),
     /// A name in double quotes that isn't closed.
     OpenName,
     /// A block that isn't closed.
@@ -46,11 +47,11 @@ pub enum Kind {
 }
 
 /// A token, with the place of its first byte.
-#[derive(Debug, Drop)]
-pub struct Token {
-    pub lexeme: Lexeme,
+#[derive(Drop)]
+pub struct Token<'a> {
+    pub lexeme: Lexeme<'a>,
     pub start: u32,
 }
 
 /// Tokens, in the order of their places.
-pub type TokenList = ListOf<Token>;
+pub type TokenList<'a> = ListOf<Token<'a>>;

@@ -3,6 +3,7 @@
 
 mod bytes;
 mod kinds;
+mod lent;
 mod lex;
 mod notes;
 mod parse;
@@ -11,5 +12,6 @@ mod spec;
 #[cfg(test)]
 mod tests;
 
+pub use lex::is_plain;
 pub use read::read_spec;
 pub use spec::{Block, BlockList, Part, PermutationList, Spec, SpecFault, SpecLimit};

@@ -6,19 +6,20 @@ ghost use Rattle.al_spec.specs.Indexed.{Indexed};
 ghost use Rattle.al_spec.specs.declared.spec.Block.{Block};
 
 use crate::kinds::{Lexeme, Token, Word};
+use crate::lent::Lent;
 use crate::spec::{Block, BlockList, Part, PermutationList, SpecFault, SpecLimit};
-use al_values::{Cant, Copied, IdList, ListOf, Name, NameList, NoMemory, Txt};
+use al_values::{Cant, IdList, ListOf, Name, NameList, NoMemory, Txt};
 use std::alloc::Global;
 use std::collections::HashMap;
 
 /// What the tokens so far say.
-#[derive(Debug, Drop)]
-pub struct Noted {
+#[derive(Drop)]
+pub struct Noted<'a> {
     /// The last of the five words, and its place.
     pub word: Option<Word>,
     pub at: u32,
     /// The last step's name.
-    pub name: Name,
+    pub name: Lent<'a>,
     pub sessions: NameList,
     pub blocks: BlockList,
     /// The permutations before the last one.
@@ -74,15 +75,15 @@ pub fn closed(
     }
 }
 
-fn noted_permutation(
+fn noted_permutation<'a>(
     alloc: Global,
-    noted: Noted,
+    noted: Noted<'a>,
     index: &Index,
     at: u32,
-) -> Result<Noted, Cant<SpecFault>>
+) -> Result<Noted<'a>, Cant<SpecFault>>
     requires { Indexed index.now noted.blocks }
-    ensures gives { GivesUnlessNoMemory result (note_permutation at noted) }
-    ensures blocks { IfOk result (λ more. more.blocks ≡ noted.blocks) }
+    ensures gives { GivesUnlessNoMemory result (note_permutation at noted.entry) }
+    ensures blocks { IfOk result (λ more. more.blocks ≡ noted.entry.blocks) }
 {
     let Noted {
         word: _,
@@ -119,14 +120,14 @@ fn noted_permutation(
     }
 }
 
-fn noted_session(
+fn noted_session<'a>(
     alloc: Global,
-    noted: Noted,
-    name: &Name,
+    noted: Noted<'a>,
+    name: &'a Lent<'a>,
     at: u32,
-) -> Result<Noted, Cant<SpecFault>>
-    ensures gives { GivesUnlessNoMemory result (note_session name.now at noted) }
-    ensures blocks { IfOk result (λ more. more.blocks ≡ noted.blocks) }
+) -> Result<Noted<'a>, Cant<SpecFault>>
+    ensures gives { GivesUnlessNoMemory result (note_session name.now at noted.entry) }
+    ensures blocks { IfOk result (λ more. more.blocks ≡ noted.entry.blocks) }
 {
     if noted.sessions.len() == 62 {
         return Err(Cant::Why(SpecFault::Limit {
@@ -135,33 +136,33 @@ fn noted_session(
         }));
     }
     let mut noted = noted;
-    noted.sessions.push(name.copied(alloc)?)?;
+    noted.sessions.push(name.to_txt(alloc)?)?;
     Ok(noted)
 }
 
 // The number of the step of a name.
-fn numbered(index: &Index, name: &Name) -> Option<u32>
+fn numbered(index: &Index, name: &Lent<'_>) -> Option<u32>
     ensures { (blocks : List Block) → Indexed index.now blocks → result ≡ number_of name.now blocks }
 {
     index.numbers.get(name.as_str()).copied()
 }
 
-fn noted_step(
+fn noted_step<'a>(
     alloc: Global,
-    noted: Noted,
+    noted: Noted<'a>,
     index: &Index,
-    name: &Name,
+    name: &'a Lent<'a>,
     at: u32,
-) -> Result<Noted, Cant<SpecFault>>
+) -> Result<Noted<'a>, Cant<SpecFault>>
     requires { Indexed index.now noted.blocks }
-    ensures gives { GivesUnlessNoMemory result (note_step (number_of name.now noted.blocks) name.now at noted) }
-    ensures blocks { IfOk result (λ more. more.blocks ≡ noted.blocks) }
+    ensures gives { GivesUnlessNoMemory result (note_step (number_of name.now noted.entry.blocks) name.now at noted.entry) }
+    ensures blocks { IfOk result (λ more. more.blocks ≡ noted.entry.blocks) }
 {
     match numbered(index, name) {
         Some(_) => Err(Cant::Why(SpecFault::TwoSteps { at })),
         None => {
             let mut noted = noted;
-            noted.name = name.copied(alloc)?;
+            noted.name = Lent::lent(name.as_str());
             Ok(noted)
         }
     }
@@ -197,16 +198,16 @@ fn stepped(alloc: Global, current: Option<IdList>, number: u32) -> Result<IdList
     Ok(steps)
 }
 
-fn noted_found(
+fn noted_found<'a>(
     alloc: Global,
-    noted: Noted,
+    noted: Noted<'a>,
     index: &Index,
     number: u32,
     at: u32,
-) -> Result<Noted, Cant<SpecFault>>
+) -> Result<Noted<'a>, Cant<SpecFault>>
     requires { Indexed index.now noted.blocks }
-    ensures gives { GivesUnlessNoMemory result (note_named (Some number) at noted) }
-    ensures blocks { IfOk result (λ more. more.blocks ≡ noted.blocks) }
+    ensures gives { GivesUnlessNoMemory result (note_named (Some number) at noted.entry) }
+    ensures blocks { IfOk result (λ more. more.blocks ≡ noted.entry.blocks) }
 {
     match within(noted.work, work_of_number(index, number)) {
         None => Err(Cant::Why(SpecFault::Limit {
@@ -228,16 +229,16 @@ fn noted_found(
     }
 }
 
-fn noted_named(
+fn noted_named<'a>(
     alloc: Global,
-    noted: Noted,
+    noted: Noted<'a>,
     index: &Index,
-    name: &Name,
+    name: &'a Lent<'a>,
     at: u32,
-) -> Result<Noted, Cant<SpecFault>>
+) -> Result<Noted<'a>, Cant<SpecFault>>
     requires { Indexed index.now noted.blocks }
-    ensures gives { GivesUnlessNoMemory result (note_named (number_of name.now noted.blocks) at noted) }
-    ensures blocks { IfOk result (λ more. more.blocks ≡ noted.blocks) }
+    ensures gives { GivesUnlessNoMemory result (note_named (number_of name.now noted.entry.blocks) at noted.entry) }
+    ensures blocks { IfOk result (λ more. more.blocks ≡ noted.entry.blocks) }
 {
     match numbered(index, name) {
         None => Err(Cant::Why(SpecFault::NoStep { at })),
@@ -245,16 +246,16 @@ fn noted_named(
     }
 }
 
-fn noted_name(
+fn noted_name<'a>(
     alloc: Global,
-    noted: Noted,
+    noted: Noted<'a>,
     index: &Index,
-    name: &Name,
+    name: &'a Lent<'a>,
     at: u32,
-) -> Result<Noted, Cant<SpecFault>>
+) -> Result<Noted<'a>, Cant<SpecFault>>
     requires { Indexed index.now noted.blocks }
-    ensures gives { GivesUnlessNoMemory result (note_name noted.word name.now at noted) }
-    ensures blocks { IfOk result (λ more. more.blocks ≡ noted.blocks) }
+    ensures gives { GivesUnlessNoMemory result (note_name noted.entry.word name.now at noted.entry) }
+    ensures blocks { IfOk result (λ more. more.blocks ≡ noted.entry.blocks) }
 {
     match noted.word {
         Some(Word::Session) => noted_session(alloc, noted, name, at),
@@ -264,16 +265,16 @@ fn noted_name(
     }
 }
 
-fn noted_word(
+fn noted_word<'a>(
     alloc: Global,
-    noted: Noted,
+    noted: Noted<'a>,
     index: &Index,
     word: Word,
     at: u32,
-) -> Result<Noted, Cant<SpecFault>>
+) -> Result<Noted<'a>, Cant<SpecFault>>
     requires { Indexed index.now noted.blocks }
-    ensures gives { GivesUnlessNoMemory result (note_word word at noted) }
-    ensures blocks { IfOk result (λ more. more.blocks ≡ noted.blocks) }
+    ensures gives { GivesUnlessNoMemory result (note_word word at noted.entry) }
+    ensures blocks { IfOk result (λ more. more.blocks ≡ noted.entry.blocks) }
 {
     match word {
         Word::Permutation => noted_permutation(alloc, noted, index, at),
@@ -319,11 +320,11 @@ fn part_of(word: Option<Word>, sessions: usize) -> Part
     }
 }
 
-fn block_name(alloc: Global, part: Part, name: &Name) -> Result<Name, NoMemory>
+fn block_name(alloc: Global, part: Part, name: &Lent<'_>) -> Result<Name, NoMemory>
     ensures { IfOk result (λ own. own ≡ name_for part name.now) }
 {
     match part {
-        Part::Step => name.copied(alloc),
+        Part::Step => name.to_txt(alloc),
         Part::Setup | Part::SessionSetup | Part::SessionTeardown | Part::Teardown => Txt::new(
             alloc, "",
         ),
@@ -399,18 +400,18 @@ fn keep(alloc: Global, index: &mut Index, block: &Block, number: u32) -> Result<
     Ok(())
 }
 
-fn noted_block(
+fn noted_block<'a>(
     alloc: Global,
-    noted: Noted,
+    noted: Noted<'a>,
     index: &mut Index,
-    text: &Txt,
+    text: &Lent<'_>,
     at: u32,
-) -> Result<Noted, Cant<SpecFault>>
+) -> Result<Noted<'a>, Cant<SpecFault>>
     requires { Indexed index.old noted.blocks }
-    ensures gives { GivesUnlessNoMemory result (note_block text.now at noted) }
+    ensures gives { GivesUnlessNoMemory result (note_block text.now at noted.entry) }
     ensures indexed { IfOk result (λ more. Indexed index.new more.blocks) }
 {
-    if text.as_bytes().len() > 65_536 {
+    if text.as_str().len() > 65_536 {
         return Err(Cant::Why(SpecFault::Limit {
             at,
             what: SpecLimit::Block,
@@ -426,7 +427,7 @@ fn noted_block(
         part,
         session: sessions as u32,
         name: block_name(alloc, part, &noted.name)?,
-        text: text.copied(alloc)?,
+        text: text.to_txt(alloc)?,
     };
     keep(alloc, index, &block, number as u32)?;
     let mut noted = noted;
@@ -434,14 +435,14 @@ fn noted_block(
     Ok(noted)
 }
 
-fn note_one(
+fn note_one<'a>(
     alloc: Global,
-    noted: Noted,
+    noted: Noted<'a>,
     index: &mut Index,
-    token: &Token,
-) -> Result<Noted, Cant<SpecFault>>
+    token: &'a Token<'a>,
+) -> Result<Noted<'a>, Cant<SpecFault>>
     requires { Indexed index.old noted.blocks }
-    ensures gives { GivesUnlessNoMemory result (note noted token.now) }
+    ensures gives { GivesUnlessNoMemory result (note noted.entry token.now) }
     ensures indexed { IfOk result (λ more. Indexed index.new more.blocks) }
 {
     match &token.lexeme {
@@ -454,13 +455,13 @@ fn note_one(
 }
 
 /// What tokens say, or the fault of the first that breaks a rule beside the grammar.
-pub fn note_all(alloc: Global, tokens: &[Token]) -> Result<Noted, Cant<SpecFault>>
+pub fn note_all<'a>(alloc: Global, tokens: &'a [Token<'a>]) -> Result<Noted<'a>, Cant<SpecFault>>
     ensures { GivesUnlessNoMemory result (note_all nothing_noted tokens.now) }
 {
     let mut noted = Noted {
         word: None,
         at: 0,
-        name: Txt::new(alloc, "")?,
+        name: Lent::lent(""),
         sessions: ListOf::new(alloc),
         blocks: ListOf::new(alloc),
         permutations: ListOf::new(alloc),

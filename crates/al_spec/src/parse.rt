@@ -49,7 +49,7 @@ fn starts(wanted: Kind, tokens: &[Token]) -> bool
 }
 
 // The tokens behind one of a kind; or how many are left where there is another, or none.
-fn take(wanted: Kind, tokens: &[Token]) -> Result<&[Token], usize>
+fn take<'t, 'a>(wanted: Kind, tokens: &'t [Token<'a>]) -> Result<&'t [Token<'a>], usize>
     ensures { MatchResult result (λ rest. skim_token kind_of (number wanted) tokens.now ≡ Ok rest.now) (λ left. skim_token kind_of (number wanted) tokens.now ≡ Err left) }
 {
     if !starts(wanted, tokens) {
@@ -58,14 +58,14 @@ fn take(wanted: Kind, tokens: &[Token]) -> Result<&[Token], usize>
     Ok(&tokens[1..])
 }
 
-fn block_after(word: Kind, tokens: &[Token]) -> Result<&[Token], usize>
+fn block_after<'t, 'a>(word: Kind, tokens: &'t [Token<'a>]) -> Result<&'t [Token<'a>], usize>
     ensures { MatchResult result (λ rest. skim ((block_after word).reads tokens.now) ≡ Ok rest.now) (λ left. skim ((block_after word).reads tokens.now) ≡ Err left) }
 {
     let rest = take(word, tokens)?;
     take(Kind::Block, rest)
 }
 
-fn optional_block(word: Kind, tokens: &[Token]) -> Result<&[Token], usize>
+fn optional_block<'t, 'a>(word: Kind, tokens: &'t [Token<'a>]) -> Result<&'t [Token<'a>], usize>
     ensures { MatchResult result (λ rest. skim ((optional kind_of (block_after word)).reads tokens.now) ≡ Ok rest.now) (λ left. skim ((optional kind_of (block_after word)).reads tokens.now) ≡ Err left) }
 {
     if !starts(word, tokens) {
@@ -74,17 +74,18 @@ fn optional_block(word: Kind, tokens: &[Token]) -> Result<&[Token], usize>
     block_after(word, tokens)
 }
 
-fn setups(tokens: &[Token]) -> Result<&[Token], usize>
+fn setups<'t, 'a>(tokens: &'t [Token<'a>]) -> Result<&'t [Token<'a>], usize>
     ensures { MatchResult result (λ rest. skim ((many kind_of (block_after kinds.Setup)).reads tokens.now) ≡ Ok rest.now) (λ left. skim ((many kind_of (block_after kinds.Setup)).reads tokens.now) ≡ Err left) }
 {
-    let mut rest = tokens;
-    while starts(Kind::Setup, rest) {
-        rest = block_after(Kind::Setup, rest)?;
+    let mut from = 0;
+    while starts(Kind::Setup, &tokens[from..]) {
+        let rest = block_after(Kind::Setup, &tokens[from..])?;
+        from = tokens.len() - rest.len();
     }
-    Ok(rest)
+    Ok(&tokens[from..])
 }
 
-fn step(tokens: &[Token]) -> Result<&[Token], usize>
+fn step<'t, 'a>(tokens: &'t [Token<'a>]) -> Result<&'t [Token<'a>], usize>
     ensures { MatchResult result (λ rest. skim (step.reads tokens.now) ≡ Ok rest.now) (λ left. skim (step.reads tokens.now) ≡ Err left) }
 {
     let named = take(Kind::Step, tokens)?;
@@ -92,38 +93,39 @@ fn step(tokens: &[Token]) -> Result<&[Token], usize>
     take(Kind::Block, rest)
 }
 
-fn more_steps(tokens: &[Token]) -> Result<&[Token], usize>
+fn more_steps<'t, 'a>(tokens: &'t [Token<'a>]) -> Result<&'t [Token<'a>], usize>
     ensures { MatchResult result (λ rest. skim ((many kind_of step).reads tokens.now) ≡ Ok rest.now) (λ left. skim ((many kind_of step).reads tokens.now) ≡ Err left) }
 {
-    let mut rest = tokens;
-    while starts(Kind::Step, rest) {
-        rest = step(rest)?;
+    let mut from = 0;
+    while starts(Kind::Step, &tokens[from..]) {
+        let rest = step(&tokens[from..])?;
+        from = tokens.len() - rest.len();
     }
-    Ok(rest)
+    Ok(&tokens[from..])
 }
 
-fn steps(tokens: &[Token]) -> Result<&[Token], usize>
+fn steps<'t, 'a>(tokens: &'t [Token<'a>]) -> Result<&'t [Token<'a>], usize>
     ensures { MatchResult result (λ rest. skim (steps.reads tokens.now) ≡ Ok rest.now) (λ left. skim (steps.reads tokens.now) ≡ Err left) }
 {
     let rest = step(tokens)?;
     more_steps(rest)
 }
 
-fn session_end(tokens: &[Token]) -> Result<&[Token], usize>
+fn session_end<'t, 'a>(tokens: &'t [Token<'a>]) -> Result<&'t [Token<'a>], usize>
     ensures { MatchResult result (λ rest. skim (session_end.reads tokens.now) ≡ Ok rest.now) (λ left. skim (session_end.reads tokens.now) ≡ Err left) }
 {
     let rest = steps(tokens)?;
     optional_block(Kind::Teardown, rest)
 }
 
-fn session_parts(tokens: &[Token]) -> Result<&[Token], usize>
+fn session_parts<'t, 'a>(tokens: &'t [Token<'a>]) -> Result<&'t [Token<'a>], usize>
     ensures { MatchResult result (λ rest. skim (session_parts.reads tokens.now) ≡ Ok rest.now) (λ left. skim (session_parts.reads tokens.now) ≡ Err left) }
 {
     let rest = optional_block(Kind::Setup, tokens)?;
     session_end(rest)
 }
 
-fn session(tokens: &[Token]) -> Result<&[Token], usize>
+fn session<'t, 'a>(tokens: &'t [Token<'a>]) -> Result<&'t [Token<'a>], usize>
     ensures { MatchResult result (λ rest. skim (session.reads tokens.now) ≡ Ok rest.now) (λ left. skim (session.reads tokens.now) ≡ Err left) }
 {
     let named = take(Kind::Session, tokens)?;
@@ -131,40 +133,42 @@ fn session(tokens: &[Token]) -> Result<&[Token], usize>
     session_parts(rest)
 }
 
-fn more_sessions(tokens: &[Token]) -> Result<&[Token], usize>
+fn more_sessions<'t, 'a>(tokens: &'t [Token<'a>]) -> Result<&'t [Token<'a>], usize>
     ensures { MatchResult result (λ rest. skim ((many kind_of session).reads tokens.now) ≡ Ok rest.now) (λ left. skim ((many kind_of session).reads tokens.now) ≡ Err left) }
 {
-    let mut rest = tokens;
-    while starts(Kind::Session, rest) {
-        rest = session(rest)?;
+    let mut from = 0;
+    while starts(Kind::Session, &tokens[from..]) {
+        let rest = session(&tokens[from..])?;
+        from = tokens.len() - rest.len();
     }
-    Ok(rest)
+    Ok(&tokens[from..])
 }
 
-fn sessions(tokens: &[Token]) -> Result<&[Token], usize>
+fn sessions<'t, 'a>(tokens: &'t [Token<'a>]) -> Result<&'t [Token<'a>], usize>
     ensures { MatchResult result (λ rest. skim (sessions.reads tokens.now) ≡ Ok rest.now) (λ left. skim (sessions.reads tokens.now) ≡ Err left) }
 {
     let rest = session(tokens)?;
     more_sessions(rest)
 }
 
-fn name(tokens: &[Token]) -> Result<&[Token], usize>
+fn name<'t, 'a>(tokens: &'t [Token<'a>]) -> Result<&'t [Token<'a>], usize>
     ensures { MatchResult result (λ rest. skim (name.reads tokens.now) ≡ Ok rest.now) (λ left. skim (name.reads tokens.now) ≡ Err left) }
 {
     take(Kind::Name, tokens)
 }
 
-fn more_names(tokens: &[Token]) -> Result<&[Token], usize>
+fn more_names<'t, 'a>(tokens: &'t [Token<'a>]) -> Result<&'t [Token<'a>], usize>
     ensures { MatchResult result (λ rest. skim ((many kind_of name).reads tokens.now) ≡ Ok rest.now) (λ left. skim ((many kind_of name).reads tokens.now) ≡ Err left) }
 {
-    let mut rest = tokens;
-    while starts(Kind::Name, rest) {
-        rest = name(rest)?;
+    let mut from = 0;
+    while starts(Kind::Name, &tokens[from..]) {
+        let rest = name(&tokens[from..])?;
+        from = tokens.len() - rest.len();
     }
-    Ok(rest)
+    Ok(&tokens[from..])
 }
 
-fn permutation(tokens: &[Token]) -> Result<&[Token], usize>
+fn permutation<'t, 'a>(tokens: &'t [Token<'a>]) -> Result<&'t [Token<'a>], usize>
     ensures { MatchResult result (λ rest. skim (permutation.reads tokens.now) ≡ Ok rest.now) (λ left. skim (permutation.reads tokens.now) ≡ Err left) }
 {
     let named = take(Kind::Permutation, tokens)?;
@@ -172,31 +176,32 @@ fn permutation(tokens: &[Token]) -> Result<&[Token], usize>
     more_names(rest)
 }
 
-fn permutations(tokens: &[Token]) -> Result<&[Token], usize>
+fn permutations<'t, 'a>(tokens: &'t [Token<'a>]) -> Result<&'t [Token<'a>], usize>
     ensures { MatchResult result (λ rest. skim ((many kind_of permutation).reads tokens.now) ≡ Ok rest.now) (λ left. skim ((many kind_of permutation).reads tokens.now) ≡ Err left) }
 {
-    let mut rest = tokens;
-    while starts(Kind::Permutation, rest) {
-        rest = permutation(rest)?;
+    let mut from = 0;
+    while starts(Kind::Permutation, &tokens[from..]) {
+        let rest = permutation(&tokens[from..])?;
+        from = tokens.len() - rest.len();
     }
-    Ok(rest)
+    Ok(&tokens[from..])
 }
 
-fn bodies(tokens: &[Token]) -> Result<&[Token], usize>
+fn bodies<'t, 'a>(tokens: &'t [Token<'a>]) -> Result<&'t [Token<'a>], usize>
     ensures { MatchResult result (λ rest. skim (bodies.reads tokens.now) ≡ Ok rest.now) (λ left. skim (bodies.reads tokens.now) ≡ Err left) }
 {
     let rest = sessions(tokens)?;
     permutations(rest)
 }
 
-fn late(tokens: &[Token]) -> Result<&[Token], usize>
+fn late<'t, 'a>(tokens: &'t [Token<'a>]) -> Result<&'t [Token<'a>], usize>
     ensures { MatchResult result (λ rest. skim (late.reads tokens.now) ≡ Ok rest.now) (λ left. skim (late.reads tokens.now) ≡ Err left) }
 {
     let rest = optional_block(Kind::Teardown, tokens)?;
     bodies(rest)
 }
 
-fn file(tokens: &[Token]) -> Result<&[Token], usize>
+fn file<'t, 'a>(tokens: &'t [Token<'a>]) -> Result<&'t [Token<'a>], usize>
     ensures { MatchResult result (λ rest. skim (file.reads tokens.now) ≡ Ok rest.now) (λ left. skim (file.reads tokens.now) ≡ Err left) }
 {
     let rest = setups(tokens)?;

@@ -27,7 +27,7 @@ fn has_step(current: &Option<IdList>) -> bool
 }
 
 // The fault of a token that can't stand there.
-fn fault_of(lexeme: &Lexeme, current: &Option<IdList>, at: u32) -> SpecFault
+fn fault_of(lexeme: &Lexeme<'_>, current: &Option<IdList>, at: u32) -> SpecFault
     ensures { result ≡ marker_or_syntax lexeme.now current.now at }
 {
     match lexeme {
@@ -47,7 +47,7 @@ fn fault_of(lexeme: &Lexeme, current: &Option<IdList>, at: u32) -> SpecFault
     }
 }
 
-fn first_fault(noted: &Noted, from: &[Token], end: u32) -> SpecFault
+fn first_fault(noted: &Noted<'_>, from: &[Token<'_>], end: u32) -> SpecFault
     ensures { result ≡ syntax_fault noted.now from.now end }
 {
     match from.first() {
@@ -56,8 +56,8 @@ fn first_fault(noted: &Noted, from: &[Token], end: u32) -> SpecFault
     }
 }
 
-fn spec_of_noted(noted: Noted) -> Result<Spec, NoMemory>
-    ensures { IfOk result (λ spec. spec ≡ spec_noted noted) }
+fn spec_of_noted(noted: Noted<'_>) -> Result<Spec, NoMemory>
+    ensures { IfOk result (λ spec. spec ≡ spec_noted noted.entry) }
 {
     let Noted {
         word: _,
@@ -76,7 +76,7 @@ fn spec_of_noted(noted: Noted) -> Result<Spec, NoMemory>
     })
 }
 
-fn answer(alloc: Global, tokens: &[Token], end: u32) -> Result<Spec, Cant<SpecFault>>
+fn answer(alloc: Global, tokens: &[Token<'_>], end: u32) -> Result<Spec, Cant<SpecFault>>
     ensures { GivesUnlessNoMemory result (answer tokens.now end) }
 {
     match syntax(tokens) {

@@ -9,8 +9,8 @@ use Rattle.al_spec.proofs.lex.quoted_piece.Goals as goal
 pub returns-then-is_empty-clause-is : goal.returns-then-is_empty-clause-is
 returns-then-is_empty-clause-is c =
     let q : IsQuote c.args.text.now c.args.place (quotes.Closed c.in-Closed.name c.in-Closed.end) = subst (λ (q : Quote). IsQuote c.args.text.now c.args.place q) c.in-Closed.is c.in_ok-quoted.ensures in
-    let size : length c.as_bytes.result.now ≡ 0 = eqb-true (length c.as_bytes.result.now) 0 (sym c.is_empty.ensures ∙ c.if-is_empty.true) in
-    let none : c.in-Closed.name ≡ [] = no_bytes _ (sym (ap length c.as_bytes.ensures) ∙ size) in
+    let size : length c.as_str.result.now ≡ 0 = eqb-true (length c.as_str.result.now) 0 (sym c.is_empty.ensures ∙ c.if-is_empty.true) in
+    let none : c.in-Closed.name ≡ [] = no_bytes _ (sym (ap length c.as_str.ensures) ∙ size) in
     bad_name (record { begins = c.requires.begins; bad = inl (empty_name _ _ _ _ none q.0) })
 
 pub returns-in-Open-clause-is : goal.returns-in-Open-clause-is

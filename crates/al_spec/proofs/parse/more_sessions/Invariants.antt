@@ -1,11 +1,15 @@
-use Rattle.std.proofs.Common.{◌≡◌, length}
+use Rattle.std.proofs.Common.{◌≡◌, ◌≤◌, ◌-◌, length}
 use Rattle.al_grammar.specs.Rules.{many}
 use Rattle.al_grammar.specs.Skim.{skim}
 use Rattle.al_spec.specs.Grammar.{kind_of, session}
+use Rattle.al_spec.proofs.Syntax.{from_on}
 use Rattle.al_spec.proofs.parse.more_sessions.Given as goal
 
-abbrev pub invariant-loop-rest : goal.invariant-loop-rest
-invariant-loop-rest l = skim ((many kind_of session).reads l.tokens) ≡ skim ((many kind_of session).reads l.rest)
+abbrev pub invariant-loop-from : goal.invariant-loop-from
+invariant-loop-from l = record {
+  within : l.from ≤ length l.tokens;
+  goes_on : skim ((many kind_of session).reads l.tokens) ≡ skim ((many kind_of session).reads (from_on l.tokens l.from));
+}
 
-abbrev pub decreases-loop-rest : goal.decreases-loop-rest
-decreases-loop-rest l = length l.rest
+abbrev pub decreases-loop-from : goal.decreases-loop-from
+decreases-loop-from l = length l.tokens - l.from

@@ -1,7 +1,7 @@
 use Rattle.std.proofs.Common.{length, ◌-◌, ℕ, List, ◌++◌, ◌≡◌, ◌≤◌, ◌<◌, ◌+◌}
 use Rattle.std.specs.Prelude.{IsCharBoundary, string_bytes}
 use Rattle.al_spec.specs.Bytes.{at, Quoted}
-use Rattle.al_spec.proofs.lex.quoted.Given as goal
+use Rattle.al_spec.proofs.lex.quoted_anew.Given as goal
 
 abbrev pub invariant-loop-place : goal.invariant-loop-place
 invariant-loop-place l = record {

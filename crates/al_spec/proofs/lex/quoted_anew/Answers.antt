@@ -4,7 +4,7 @@ use Rattle.std.proofs.lemmas.List.{append-nil}
 use Rattle.std.proofs.lemmas.Str.{IsCharBoundary-after_ascii}
 use Rattle.al_spec.specs.Bytes.{at, First, Quoted, closes, doubled}
 use Rattle.al_spec.proofs.Quotes.{on_piece, off_piece, over_doubled, never, not_over, inside_if, no_feed_to, no_feed_over}
-use Rattle.al_spec.proofs.lex.quoted.Goals as goal
+use Rattle.al_spec.proofs.lex.quoted_anew.Goals as goal
 
 pub returns-then-feed-found : goal.returns-then-feed-found
 returns-then-feed-found c =
@@ -31,9 +31,9 @@ returns-then-at-ne34 c =
     let next_is : c.at.result ≡ at c.args.text.now (c.seek-found.result + 1) = c.at.ensures ∙ ap (λ (t : List ℕ). at t (c.seek-found.result + 1)) c.as_bytes-bytes.ensures.value in
     let inside : c.seek-found.result < length c.args.text.now = omega (arith, s.within, c.if-found-bytes.false) in
     let here : at c.args.text.now c.seek-found.result ≡ 34 = s.is inside in
-    let value : c.from_string.result ≡ string_bytes c.loop-place.name ++ slice_range c.args.text.now c.loop-place.place c.seek-found.result =
-    c.from_string.ensures ∙ c.in_ok-push_str.ensures.bytes ∙ ap (λ (x : List ℕ). string_bytes c.loop-place.name ++ x) c.range.ensures.value in
-    let alone : string_bytes c.loop-place.name ++ (slice_range c.args.text.now c.loop-place.place c.seek-found.result ++ []) ≡ c.from_string.result =
+    let value : c.own.result ≡ string_bytes c.loop-place.name ++ slice_range c.args.text.now c.loop-place.place c.seek-found.result =
+    c.own.ensures ∙ c.from_string.ensures ∙ c.in_ok-push_str.ensures.bytes ∙ ap (λ (x : List ℕ). string_bytes c.loop-place.name ++ x) c.range.ensures.value in
+    let alone : string_bytes c.loop-place.name ++ (slice_range c.args.text.now c.loop-place.place c.seek-found.result ++ []) ≡ c.own.result =
     ap (λ (x : List ℕ). string_bytes c.loop-place.name ++ x) (append-nil (slice_range c.args.text.now c.loop-place.place c.seek-found.result)) ∙ sym value in
     let closed : Quoted c.args.text.now (c.seek-found.result + 1) c.seek-found.result [] = closes c.seek-found.result here (λ e. c.if-at-ne34.true (next_is ∙ e)) refl in
     let piece = on_piece c.args.text.now (c.seek-found.result + 1) c.loop-place.place c.seek-found.result [] s.rises s.within s.before (λ k x y. feed.before k x (omega (arith, c.if-feed-found.false))) closed in (
