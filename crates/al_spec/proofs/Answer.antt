@@ -1,5 +1,5 @@
 -- The program's answer is what the definitions say.
-use Rattle.std.proofs.Common.{◌≡◌, ℕ, ◌+◌, ◌-◌, ◌<◌, ◌≤◌, List, [], ◌∷◌, ◌++◌, length, take, drop, length-append, append_assoc, Result, Ok, Err, refl, sym, ap, ◌∙◌, arith, subst}
+use Rattle.std.proofs.Common.{◌≡◌, ℕ, ◌+◌, ◌-◌, ◌<◌, ◌≤◌, ◌^◌, List, [], ◌∷◌, ◌++◌, length, take, drop, length-append, append_assoc, Result, Ok, Err, refl, sym, ap, ◌∙◌, arith, subst}
 use Rattle.std.specs.Prelude.{IsUtf8, IfOk}
 use Rattle.al_values.specs.Gives.{GivesUnlessNoMemory}
 use Rattle.al_values.specs.declared.cant.Cant.{Cant}
@@ -19,7 +19,9 @@ use Rattle.al_spec.specs.Files.{spec_noted, IsSpecFile, IsFault, not_utf8, rule,
 use Rattle.al_spec.proofs.FileLaws.{lawful_file}
 use Rattle.al_spec.proofs.Unique.{only_tokens}
 use Rattle.al_spec.proofs.Known.{known_file}
-use Rattle.al_spec.proofs.Values.{spec_is}
+use Rattle.al_spec.proofs.Values.{spec_is, file_tells}
+use Rattle.al_spec.specs.Sound.{IsSound}
+use Rattle.al_spec.proofs.Sounds.{sound_spec}
 use Rattle.al_spec.proofs.NoteParts.{notes_append}
 
 -- ---- notes on a list in two parts
@@ -87,7 +89,7 @@ module _ (bytes : List ℕ) (utf8 : IsUtf8 bytes) (ts : List Token) (are : AreTo
   broken_text v f is b = rule f ts b.before b.token b.after b.after v b.noted utf8 are b.split (subst (λ (l : List Token). file.Is l v) b.split is) b.no_fault b.fault
 
   spec_found : (v : File) (s : Spec) → file.Is ts v → (r : Result Noted SpecFault) → note_all nothing_noted ts ≡ r → spec_or r ≡ Ok s → IsSpecFile bytes s
-  spec_found v s is (Ok n) h e = record { utf8 = utf8; tokens = ts; tokens_are = are; value = v; is = is; noted = n; says = h; means = let same : spec_noted n ≡ s = cc in sym same ∙ spec_is ts v n is (known_file bytes ts v are is) h }
+  spec_found v s is (Ok n) h e = record { utf8 = utf8; tokens = ts; tokens_are = are; value = v; is = is; noted = n; says = h; means = let same : spec_noted n ≡ s = cc in sym same ∙ spec_is ts v n is (known_file bytes ts v are is) h; keeps = (file_tells ts v n is (known_file bytes ts v are is) h).keeps }
   spec_found v s is (Err f) h e = absurd cc
 
   rule_found : (v : File) (f : SpecFault) → file.Is ts v → (r : Result Noted SpecFault) → note_all nothing_noted ts ≡ r → spec_or r ≡ Err f → IsFault bytes f
@@ -190,6 +192,10 @@ module _ (bytes : List ℕ) (utf8 : IsUtf8 bytes) (ts : List Token) (are : AreTo
   pub read_found : (r : Result Spec (Cant SpecFault)) → GivesUnlessNoMemory r (answer ts (length bytes)) → IfOk r (λ s. IsSpecFile bytes s)
   read_found (Ok s) g = spec_sound bytes utf8 ts are s g
   read_found (Err e) g = tt
+
+  pub read_sound : (r : Result Spec (Cant SpecFault)) → GivesUnlessNoMemory r (answer ts (length bytes)) → IfOk r (λ s. length s.blocks < 2 ^ 32) → IfOk r (λ s. IsSound s)
+  read_sound (Ok s) g few = let h = spec_sound bytes utf8 ts are s g in sound_spec h.value s h.keeps h.means few
+  read_sound (Err e) g few = tt
 
   pub read_fault : (r : Result Spec (Cant SpecFault)) → GivesUnlessNoMemory r (answer ts (length bytes)) → IfWhy r (λ f. IsFault bytes f)
   read_fault (Ok s) g = tt

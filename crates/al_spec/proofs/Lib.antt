@@ -1,6 +1,7 @@
 pub mod Runs
 pub mod Slices
 pub mod Quotes
+pub mod Sounds
 pub mod Starts
 pub mod Pieces
 pub mod Unique

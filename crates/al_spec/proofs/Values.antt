@@ -23,7 +23,8 @@ use Rattle.al_spec.specs.declared.spec.SpecLimit.TheVariants as limits
 use Rattle.al_spec.specs.declared.notes.Noted.{Noted}
 use Rattle.al_spec.specs.Grammar.{kind, number, name_in, text_in, word, name, block, block_after, step, step_of, steps, session_end, session_parts, session_of, session, sessions, permutation, bodies, late, file, file_of, StepText, SessionText, File}
 use Rattle.al_spec.specs.Notes.{note, note_lexeme, note_name, note_block, note_session, note_step, note_named, note_all, and_note, nothing_noted, all_permutations, begun_ones, steps_in, number_of, number_or, part_of, control_or, name_for, block_of, is_step, base_work, work_at}
-use Rattle.al_spec.specs.Files.{number_in, one_block, setup_block, step_block, session_blocks, blocks_from, blocks_of, spec_of, spec_noted}
+use Rattle.al_spec.specs.Meaning.{number_in, one_block, setup_block, step_block, session_blocks, blocks_from, blocks_of, spec_of}
+use Rattle.al_spec.specs.Files.{spec_noted}
 use Rattle.al_spec.specs.Keeps.{Each, Keeps, DifferAfter, IsStepName, named_work, all_work, limits as most}
 use Rattle.al_spec.proofs.Known.{NotOpen, IsKnown}
 use Rattle.al_spec.proofs.NoteParts.{notes_append}

@@ -1,5 +1,5 @@
 -- Spec files: what bytes are one, and where others have their fault.
-use Rattle.std.specs.Prelude.{◌+◌, map, ◌≡◌, ℕ, ◌-◌, List, [], ◌∷◌, ◌++◌, length, take, drop, Option, Some, Result, Ok, Err, IsUtf8, None}
+use Rattle.std.specs.Prelude.{◌≡◌, ℕ, ◌-◌, List, [], ◌∷◌, ◌++◌, length, take, drop, Option, Some, Result, Ok, Err, IsUtf8}
 use Rattle.std.specs.Str.{IsValidUpTo}
 use Rattle.al_values.specs.declared.cant.Cant.{Cant}
 use Rattle.al_values.specs.declared.cant.Cant.TheVariants as cants
@@ -7,50 +7,15 @@ use Rattle.al_grammar.specs.Whole.{StopsAt, whole_of}
 use Rattle.al_spec.specs.declared.kinds.Lexeme.{Lexeme}
 use Rattle.al_spec.specs.declared.kinds.Lexeme.TheVariants as lexemes
 use Rattle.al_spec.specs.declared.kinds.Token.{Token}
-use Rattle.al_spec.specs.declared.spec.Part.{Part}
-use Rattle.al_spec.specs.declared.spec.Part.TheVariants as parts
-use Rattle.al_spec.specs.declared.spec.Block.{Block}
 use Rattle.al_spec.specs.declared.spec.Spec.{Spec}
 use Rattle.al_spec.specs.declared.spec.SpecFault.{SpecFault}
 use Rattle.al_spec.specs.declared.spec.SpecFault.TheVariants as faults
 use Rattle.al_spec.specs.declared.notes.Noted.{Noted}
 use Rattle.al_spec.specs.Tokens.{AreTokens}
-use Rattle.al_spec.specs.Grammar.{file, File, StepText, SessionText}
-use Rattle.al_spec.specs.Notes.{note, note_all, nothing_noted, all_permutations, number_of, number_or}
-
--- ---- what a file says, as a spec
-
-abbrev pub number_in : List Block → List ℕ → ℕ
-number_in blocks name = number_or (number_of name blocks)
-
-abbrev pub one_block : Part → ℕ → Option (List ℕ) → List Block
-one_block part session None = []
-one_block part session (Some text) = record { part = part; session = session; name = []; text = text } ∷ []
-
-abbrev pub setup_block : List ℕ → Block
-setup_block text = record { part = parts.Setup; session = 0; name = []; text = text }
-
-abbrev pub step_block : ℕ → StepText → Block
-step_block session s = record { part = parts.Step; session = session; name = s.name; text = s.text }
-
-abbrev pub session_blocks : ℕ → SessionText → List Block
-session_blocks session s = one_block parts.SessionSetup session s.setup ++ (map (step_block session) s.steps ++ one_block parts.SessionTeardown session s.teardown)
-
--- the blocks of sessions, which count from a number
-abbrev pub blocks_from : ℕ → List SessionText → List Block
-blocks_from session [] = []
-blocks_from session (s ∷ ss) = session_blocks session s ++ blocks_from (session + 1) ss
-
-abbrev pub blocks_of : File → List Block
-blocks_of f = map setup_block f.setups ++ (one_block parts.Teardown 0 f.teardown ++ blocks_from 1 f.sessions)
-
--- The sessions' names; the blocks in the file's order; the permutations, each the numbers of the steps that it names.
-abbrev pub spec_of : File → Spec
-spec_of f = record {
-  sessions = map (λ s. s.name) f.sessions;
-  blocks = blocks_of f;
-  permutations = map (λ names. map (λ name. number_in (blocks_of f) name) names) f.permutations;
-}
+use Rattle.al_spec.specs.Grammar.{file, File}
+use Rattle.al_spec.specs.Notes.{note, note_all, nothing_noted, all_permutations}
+use Rattle.al_spec.specs.Meaning.{spec_of}
+use Rattle.al_spec.specs.Keeps.{Keeps, limits}
 
 abbrev pub spec_noted : Noted → Spec
 spec_noted n = record { sessions = n.sessions; blocks = n.blocks; permutations = all_permutations n }
@@ -66,6 +31,7 @@ pub record IsSpecFile (bytes : List ℕ) (spec : Spec) : Type 0 where
   pub noted : Noted
   pub says : note_all nothing_noted tokens ≡ Ok noted
   pub means : spec ≡ spec_of value
+  pub keeps : Keeps limits value
 
 -- the fault of a token that can't stand there: a `(` after a name in a permutation is a marker
 abbrev pub marker_or_syntax : Lexeme → Option (List ℕ) → ℕ → SpecFault

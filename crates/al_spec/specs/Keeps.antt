@@ -3,7 +3,7 @@ use Rattle.std.specs.Prelude.{◌≡◌, ℕ, ◌+◌, ◌≤◌, true, List, []
 use Rattle.al_spec.specs.declared.spec.Block.{Block}
 use Rattle.al_spec.specs.Grammar.{File}
 use Rattle.al_spec.specs.Notes.{is_step, number_of, base_work, work_at}
-use Rattle.al_spec.specs.Files.{blocks_of, number_in}
+use Rattle.al_spec.specs.Meaning.{blocks_of, number_in}
 
 -- each of a list is so
 abbrev pub Each : {X : Type 0} → (X → Type 0) → List X → Type 0

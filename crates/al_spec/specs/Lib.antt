@@ -1,8 +1,10 @@
 pub mod Bytes
-pub mod Tokens
+pub mod Files
 pub mod Grammar
+pub mod Indexed
 pub mod Keeps
+pub mod Meaning
 pub mod Notes
 pub mod Owned
-pub mod Indexed
-pub mod Files
+pub mod Sound
+pub mod Tokens

@@ -1,4 +1,4 @@
-ghost use Rattle.std.specs.Prelude.{ℕ, ◌≡◌, ◌+◌, ◌<◌, ◌≤◌, List, [], ◌∷◌, ◌++◌, length, Ok, Err, Some, None, IfOk, MatchOption, option_copied, nat_lt, OnOk, ◌&&◌, bytes_eq};
+ghost use Rattle.std.specs.Prelude.{ℕ, ◌≡◌, ◌+◌, ◌<◌, ◌≤◌, ◌^◌, List, [], ◌∷◌, ◌++◌, length, Ok, Err, Some, None, IfOk, MatchOption, option_copied, nat_lt, OnOk, ◌&&◌, bytes_eq};
 ghost use Rattle.std.specs.HashMap.{get_by_text};
 ghost use Rattle.al_values.specs.Gives.{GivesUnlessNoMemory};
 ghost use Rattle.al_spec.specs.Notes.{note, note_all, nothing_noted, note_word, note_permutation, note_session, note_step, note_named, note_name, note_block, number_of, work_at, work_of, semicolons, begun_ones, steps_in, all_permutations, part_of, name_for, block_of, is_step, or_else, fixed};
@@ -410,6 +410,7 @@ fn noted_block<'a>(
     requires { Indexed index.old noted.blocks }
     ensures gives { GivesUnlessNoMemory result (note_block text.now at noted.entry) }
     ensures indexed { IfOk result (λ more. Indexed index.new more.blocks) }
+    ensures few { IfOk result (λ more. length more.blocks < 2 ^ 32) }
 {
     if text.as_str().len() > 65_536 {
         return Err(Cant::Why(SpecFault::Limit {
@@ -419,7 +420,7 @@ fn noted_block<'a>(
     }
     let sessions = noted.sessions.len();
     let number = noted.blocks.len();
-    if sessions > u32::MAX as usize || number > u32::MAX as usize {
+    if sessions > u32::MAX as usize || number >= u32::MAX as usize {
         return Err(Cant::NoMemory);
     }
     let part = part_of(noted.word, sessions);
@@ -441,9 +442,11 @@ fn note_one<'a>(
     index: &mut Index,
     token: &'a Token<'a>,
 ) -> Result<Noted<'a>, Cant<SpecFault>>
-    requires { Indexed index.old noted.blocks }
+    requires indexed { Indexed index.old noted.blocks }
+    requires few { length noted.blocks < 2 ^ 32 }
     ensures gives { GivesUnlessNoMemory result (note noted.entry token.now) }
     ensures indexed { IfOk result (λ more. Indexed index.new more.blocks) }
+    ensures few { IfOk result (λ more. length more.blocks < 2 ^ 32) }
 {
     match &token.lexeme {
         Lexeme::Word(word) => noted_word(alloc, noted, index, *word, token.start),
@@ -456,7 +459,8 @@ fn note_one<'a>(
 
 /// What tokens say, or the fault of the first that breaks a rule beside the grammar.
 pub fn note_all<'a>(alloc: Global, tokens: &'a [Token<'a>]) -> Result<Noted<'a>, Cant<SpecFault>>
-    ensures { GivesUnlessNoMemory result (note_all nothing_noted tokens.now) }
+    ensures gives { GivesUnlessNoMemory result (note_all nothing_noted tokens.now) }
+    ensures few { IfOk result (λ noted. length noted.blocks < 2 ^ 32) }
 {
     let mut noted = Noted {
         word: None,

@@ -3,6 +3,7 @@ ghost use Rattle.al_values.specs.Gives.{GivesUnlessNoMemory};
 ghost use Rattle.al_values.specs.declared.cant.Cant.TheVariants as cants;
 ghost use Rattle.al_spec.specs.Tokens.{AreTokens};
 ghost use Rattle.al_spec.specs.Files.{IsSpecFile, IsFault, IfWhy, spec_noted, syntax_fault, marker_or_syntax, answer};
+ghost use Rattle.al_spec.specs.Sound.{IsSound};
 ghost use Rattle.al_spec.specs.declared.spec.SpecFault.{SpecFault};
 ghost use Rattle.al_spec.specs.declared.spec.Spec.{Spec};
 ghost use Rattle.al_spec.specs.declared.kinds.Lexeme.TheVariants as lexemes;
@@ -77,7 +78,8 @@ fn spec_of_noted(noted: Noted<'_>) -> Result<Spec, NoMemory>
 }
 
 fn answer(alloc: Global, tokens: &[Token<'_>], end: u32) -> Result<Spec, Cant<SpecFault>>
-    ensures { GivesUnlessNoMemory result (answer tokens.now end) }
+    ensures gives { GivesUnlessNoMemory result (answer tokens.now end) }
+    ensures few { IfOk result (λ spec. length spec.blocks < 2 ^ 32) }
 {
     match syntax(tokens) {
         None => Ok(spec_of_noted(note_all(alloc, tokens)?)?),
@@ -93,6 +95,7 @@ fn answer(alloc: Global, tokens: &[Token<'_>], end: u32) -> Result<Spec, Cant<Sp
 fn read(alloc: Global, text: &str) -> Result<Spec, Cant<SpecFault>>
     requires { length text.now < 2 ^ 32 }
     ensures found { IfOk result (λ spec. IsSpecFile text.now spec) }
+    ensures sound { IfOk result (λ spec. IsSound spec) }
     ensures only { (spec : Spec) → IsSpecFile text.now spec → GivesUnlessNoMemory result (Ok spec) }
     ensures fault { IfWhy result (λ fault. IsFault text.now fault) }
     ensures only_fault { (fault : SpecFault) → IsFault text.now fault → GivesUnlessNoMemory result (Err fault) }
@@ -106,6 +109,7 @@ fn read(alloc: Global, text: &str) -> Result<Spec, Cant<SpecFault>>
 /// come first. More than 2^32 - 1 bytes find no memory.
 pub fn read_spec(alloc: Global, bytes: &[u8]) -> Result<Spec, Cant<SpecFault>>
     ensures found { IfOk result (λ spec. IsSpecFile bytes.now spec) }
+    ensures sound { IfOk result (λ spec. IsSound spec) }
     ensures only { (spec : Spec) → IsSpecFile bytes.now spec → GivesUnlessNoMemory result (Ok spec) }
     ensures fault { IfWhy result (λ fault. IsFault bytes.now fault) }
     ensures only_fault { (fault : SpecFault) → IsFault bytes.now fault → GivesUnlessNoMemory result (Err fault) }
