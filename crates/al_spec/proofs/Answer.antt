@@ -19,6 +19,7 @@ use Rattle.al_spec.specs.Files.{spec_noted, IsSpecFile, IsFault, not_utf8, rule,
 use Rattle.al_spec.proofs.FileLaws.{lawful_file}
 use Rattle.al_spec.proofs.Unique.{only_tokens}
 use Rattle.al_spec.proofs.Known.{known_file}
+use Rattle.al_spec.proofs.Allowed.{file_goes}
 use Rattle.al_spec.proofs.Values.{spec_is, file_tells}
 use Rattle.al_spec.specs.Sound.{IsSound}
 use Rattle.al_spec.proofs.Sounds.{sound_spec}
@@ -89,7 +90,7 @@ module _ (bytes : List ℕ) (utf8 : IsUtf8 bytes) (ts : List Token) (are : AreTo
   broken_text v f is b = rule f ts b.before b.token b.after b.after v b.noted utf8 are b.split (subst (λ (l : List Token). file.Is l v) b.split is) b.no_fault b.fault
 
   spec_found : (v : File) (s : Spec) → file.Is ts v → (r : Result Noted SpecFault) → note_all nothing_noted ts ≡ r → spec_or r ≡ Ok s → IsSpecFile bytes s
-  spec_found v s is (Ok n) h e = record { utf8 = utf8; tokens = ts; tokens_are = are; value = v; is = is; noted = n; says = h; means = let same : spec_noted n ≡ s = cc in sym same ∙ spec_is ts v n is (known_file bytes ts v are is) h; keeps = (file_tells ts v n is (known_file bytes ts v are is) h).keeps }
+  spec_found v s is (Ok n) h e = record { utf8 = utf8; tokens = ts; tokens_are = are; value = v; is = is; means = let same : spec_noted n ≡ s = cc in sym same ∙ spec_is ts v n is (known_file bytes ts v are is) h; keeps = (file_tells ts v n is (known_file bytes ts v are is) h).keeps }
   spec_found v s is (Err f) h e = absurd cc
 
   rule_found : (v : File) (f : SpecFault) → file.Is ts v → (r : Result Noted SpecFault) → note_all nothing_noted ts ≡ r → spec_or r ≡ Err f → IsFault bytes f
@@ -137,9 +138,10 @@ module _ (bytes : List ℕ) (utf8 : IsUtf8 bytes) (ts : List Token) (are : AreTo
   spec_complete s h =
       let same : h.tokens ≡ ts = only_tokens bytes h.tokens ts h.tokens_are are in
       let is : file.Is ts h.value = subst (λ (l : List Token). file.Is l h.value) same h.is in
-      let says : note_all nothing_noted ts ≡ Ok h.noted = subst (λ (l : List Token). note_all nothing_noted l ≡ Ok h.noted) same h.says in
-      let value : spec_noted h.noted ≡ s = spec_is ts h.value h.noted is (known_file bytes ts h.value are is) says ∙ sym h.means in
-      answer_is (Ok h.value) (whole_only Token File file_shape kind_of file lawful_file ts h.value is) ∙ ap spec_or says ∙ ap (λ (x : Spec). Ok x) value
+      let known = known_file bytes ts h.value are is in
+      let g = file_goes ts h.value is known h.keeps in
+      let value : spec_noted g.0 ≡ s = spec_is ts h.value g.0 is known g.1 ∙ sym h.means in
+      answer_is (Ok h.value) (whole_only Token File file_shape kind_of file lawful_file ts h.value is) ∙ ap spec_or g.1 ∙ ap (λ (x : Spec). Ok x) value
 
 -- the place of a stop lies behind what begins a text
 stop_behind : (ts : List Token) (n : ℕ) (h : StopsAt file.Is ts n) (before after more : List Token) (t : Token) (v : File) → ts ≡ before ++ t ∷ after → file.Is (before ++ t ∷ more) v → length before < length h.before

@@ -47,10 +47,10 @@ one_by : (x : Result Noted SpecFault) (m : Noted) → and_note x (λ k. Ok k) �
 one_by (Ok k) m e = e
 one_by (Err f) m e = absurd cc
 
-alone : (n m : Noted) (ts : List Token) (t : Token) → ts ≡ t ∷ [] → note_all n ts ≡ Ok m → note_lexeme t.lexeme t.start n ≡ Ok m
+pub alone : (n m : Noted) (ts : List Token) (t : Token) → ts ≡ t ∷ [] → note_all n ts ≡ Ok m → note_lexeme t.lexeme t.start n ≡ Ok m
 alone n m ts t e h = one_by (note n t) m (ap (λ (l : List Token). note_all n l) (sym e) ∙ h)
 
-known_parts : (ts a b : List Token) → ts ≡ a ++ b → Every IsKnown ts → Every IsKnown a × Every IsKnown b
+pub known_parts : (ts a b : List Token) → ts ≡ a ++ b → Every IsKnown ts → Every IsKnown a × Every IsKnown b
 known_parts ts a b split k = every_split Token IsKnown a b (subst (λ (l : List Token). Every IsKnown l) split k)
 
 -- ---- what a part adds
@@ -79,7 +79,7 @@ differ_append before (x ∷ a) b h g = (h.0, differ_append (before ++ x ∷ []) 
 adds_nothing : (n : Noted) → Adds n n [] []
 adds_nothing n = record { sessions = sym (append-nil n.sessions); blocks = sym (append-nil n.blocks); permutations = refl; work = refl; fits = λ h. h; texts = tt; differ = tt }
 
-adds_both : (n m r : Noted) (a c : List (List ℕ)) (b d : List Block) → Adds n m a b → Adds m r c d → Adds n r (a ++ c) (b ++ d)
+pub adds_both : (n m r : Noted) (a c : List (List ℕ)) (b d : List Block) → Adds n m a b → Adds m r c d → Adds n r (a ++ c) (b ++ d)
 adds_both n m r a c b d x y = record {
   sessions = y.sessions ∙ ap (λ (l : List (List ℕ)). l ++ c) x.sessions ∙ append_assoc n.sessions a c;
   blocks = y.blocks ∙ ap (λ (l : List Block). l ++ d) x.blocks ∙ append_assoc n.blocks b d;
@@ -91,16 +91,16 @@ adds_both n m r a c b d x y = record {
 }
 
 -- the sessions stay as many
-same_count : (n m : Noted) (bs : List Block) → Adds n m [] bs → length m.sessions ≡ length n.sessions
+pub same_count : (n m : Noted) (bs : List Block) → Adds n m [] bs → length m.sessions ≡ length n.sessions
 same_count n m bs a = ap length (a.sessions ∙ append-nil n.sessions)
 
 -- ---- a word
 
-record Worded (n m : Noted) (w : Word) : Type 0 where
+pub record Worded (n m : Noted) (w : Word) : Type 0 where
   pub word : m.word ≡ Some w
   pub adds : Adds n m [] []
 
-abbrev noting : Noted → Result Noted SpecFault
+abbrev pub noting : Noted → Result Noted SpecFault
 noting n = Ok n
 
 worded_by : (n m : Noted) (w : Word) (at : ℕ) → noting (record n { word = Some w; at = at }) ≡ Ok m → Worded n m w
@@ -122,7 +122,7 @@ on_setup lexemes.Unclosed at n m e h = absurd (clash e refl)
 on_setup lexemes.Paren at n m e h = absurd (clash e refl)
 on_setup lexemes.Stray at n m e h = absurd (clash e refl)
 
-after_setup : (ts : List Token) (u : Unit {0}) (n m : Noted) → (word kinds.Setup).Is ts u → note_all n ts ≡ Ok m → Worded n m words.Setup
+pub after_setup : (ts : List Token) (u : Unit {0}) (n m : Noted) → (word kinds.Setup).Is ts u → note_all n ts ≡ Ok m → Worded n m words.Setup
 after_setup ts u n m is e = on_setup is.token.lexeme is.token.start n m is.kind_is (alone n m ts is.token is.alone e)
 
 on_teardown : (l : Lexeme) (at : ℕ) (n m : Noted) → among (number (kind l)) (1 ∷ []) ≡ true → note_lexeme l at n ≡ Ok m → Worded n m words.Teardown
@@ -139,7 +139,7 @@ on_teardown lexemes.Unclosed at n m e h = absurd (clash e refl)
 on_teardown lexemes.Paren at n m e h = absurd (clash e refl)
 on_teardown lexemes.Stray at n m e h = absurd (clash e refl)
 
-after_teardown : (ts : List Token) (u : Unit {0}) (n m : Noted) → (word kinds.Teardown).Is ts u → note_all n ts ≡ Ok m → Worded n m words.Teardown
+pub after_teardown : (ts : List Token) (u : Unit {0}) (n m : Noted) → (word kinds.Teardown).Is ts u → note_all n ts ≡ Ok m → Worded n m words.Teardown
 after_teardown ts u n m is e = on_teardown is.token.lexeme is.token.start n m is.kind_is (alone n m ts is.token is.alone e)
 
 on_session : (l : Lexeme) (at : ℕ) (n m : Noted) → among (number (kind l)) (2 ∷ []) ≡ true → note_lexeme l at n ≡ Ok m → Worded n m words.Session
@@ -156,7 +156,7 @@ on_session lexemes.Unclosed at n m e h = absurd (clash e refl)
 on_session lexemes.Paren at n m e h = absurd (clash e refl)
 on_session lexemes.Stray at n m e h = absurd (clash e refl)
 
-after_session : (ts : List Token) (u : Unit {0}) (n m : Noted) → (word kinds.Session).Is ts u → note_all n ts ≡ Ok m → Worded n m words.Session
+pub after_session : (ts : List Token) (u : Unit {0}) (n m : Noted) → (word kinds.Session).Is ts u → note_all n ts ≡ Ok m → Worded n m words.Session
 after_session ts u n m is e = on_session is.token.lexeme is.token.start n m is.kind_is (alone n m ts is.token is.alone e)
 
 on_step : (l : Lexeme) (at : ℕ) (n m : Noted) → among (number (kind l)) (3 ∷ []) ≡ true → note_lexeme l at n ≡ Ok m → Worded n m words.Step
@@ -173,12 +173,12 @@ on_step lexemes.Unclosed at n m e h = absurd (clash e refl)
 on_step lexemes.Paren at n m e h = absurd (clash e refl)
 on_step lexemes.Stray at n m e h = absurd (clash e refl)
 
-after_step : (ts : List Token) (u : Unit {0}) (n m : Noted) → (word kinds.Step).Is ts u → note_all n ts ≡ Ok m → Worded n m words.Step
+pub after_step : (ts : List Token) (u : Unit {0}) (n m : Noted) → (word kinds.Step).Is ts u → note_all n ts ≡ Ok m → Worded n m words.Step
 after_step ts u n m is e = on_step is.token.lexeme is.token.start n m is.kind_is (alone n m ts is.token is.alone e)
 
 -- ---- a name and a block
 
-no_some : (v : List ℕ) → None ≡ Some v → ⊥
+pub no_some : (v : List ℕ) → None ≡ Some v → ⊥
 no_some v e = cc
 
 on_name : (l : Lexeme) (at : ℕ) (n m : Noted) (v : List ℕ) → name_in l ≡ Some v → NotOpen l → note_lexeme l at n ≡ Ok m → note_name n.word v at n ≡ Ok m
@@ -195,11 +195,11 @@ on_name lexemes.Unclosed at n m v e k h = absurd (no_some v e)
 on_name lexemes.Paren at n m v e k h = absurd (no_some v e)
 on_name lexemes.Stray at n m v e k h = absurd (no_some v e)
 
-record Named (n m : Noted) (v : List ℕ) : Type 0 where
+pub record Named (n m : Noted) (v : List ℕ) : Type 0 where
   pub at : ℕ
   pub gives : note_name n.word v at n ≡ Ok m
 
-after_name : (ts : List Token) (v : List ℕ) (n m : Noted) → name.Is ts v → Every IsKnown ts → note_all n ts ≡ Ok m → Named n m v
+pub after_name : (ts : List Token) (v : List ℕ) (n m : Noted) → name.Is ts v → Every IsKnown ts → note_all n ts ≡ Ok m → Named n m v
 after_name ts v n m is k e =
     let known = (known_parts ts (is.token ∷ []) [] is.alone k).0 in
     record { at = is.token.start; gives = on_name is.token.lexeme is.token.start n m v is.value_is known.0 (alone n m ts is.token is.alone e) }
@@ -218,7 +218,7 @@ on_block lexemes.Unclosed at n m v e k h = absurd (no_some v e)
 on_block lexemes.Paren at n m v e k h = absurd (no_some v e)
 on_block lexemes.Stray at n m v e k h = absurd (no_some v e)
 
-abbrev new_block : Noted → List ℕ → Block
+abbrev pub new_block : Noted → List ℕ → Block
 new_block n v = block_of (part_of n.word (length n.sessions)) (length n.sessions) n.name v
 
 -- a block that is a step has a new name
@@ -256,10 +256,10 @@ teardown_no_step : (k : ℕ) → is_step (control_or k parts.Teardown parts.Sess
 teardown_no_step zero = refl
 teardown_no_step (suc k) = refl
 
-abbrev unnamed : Part → ℕ → List ℕ → Block
+abbrev pub unnamed : Part → ℕ → List ℕ → Block
 unnamed part session text = record { part = part; session = session; name = []; text = text }
 
-abbrev own_block : Part → Part → ℕ → List ℕ → Block
+abbrev pub own_block : Part → Part → ℕ → List ℕ → Block
 own_block control own k text = unnamed (control_or k control own) k text
 
 setup_is : (n m : Noted) (v : List ℕ) → Worded n m words.Setup → new_block m v ≡ own_block parts.Setup parts.SessionSetup (length n.sessions) v
@@ -276,7 +276,7 @@ teardown_is n m v w =
     ∙ ap (λ (k : ℕ). block_of (control_or k parts.Teardown parts.SessionTeardown) k m.name v) count
     ∙ ap (λ (x : List ℕ). record { part = control_or (length n.sessions) parts.Teardown parts.SessionTeardown; session = length n.sessions; name = x; text = v }) (teardown_name (length n.sessions) m.name)
 
-setup_adds : (ts : List Token) (v : List ℕ) (n m : Noted) → (block_after kinds.Setup).Is ts v → Every IsKnown ts → note_all n ts ≡ Ok m → Adds n m [] (own_block parts.Setup parts.SessionSetup (length n.sessions) v ∷ [])
+pub setup_adds : (ts : List Token) (v : List ℕ) (n m : Noted) → (block_after kinds.Setup).Is ts v → Every IsKnown ts → note_all n ts ≡ Ok m → Adds n m [] (own_block parts.Setup parts.SessionSetup (length n.sessions) v ∷ [])
 unfolding block_after
 setup_adds ts v n m is k e =
     let p = in_parts n m ts is.front is.back is.split e in
@@ -304,7 +304,7 @@ teardown_adds ts v n m is k e =
 abbrev own_blocks : Part → ℕ → Option (List ℕ) → List Block
 own_blocks part k o = one_block part k o
 
-setup_maybe : (ts : List Token) (o : Option (List ℕ)) (n m : Noted) (k : ℕ) → length n.sessions ≡ suc k → IsOptional (block_after kinds.Setup).Is ts o → Every IsKnown ts → note_all n ts ≡ Ok m → Adds n m [] (one_block parts.SessionSetup (suc k) o)
+pub setup_maybe : (ts : List Token) (o : Option (List ℕ)) (n m : Noted) (k : ℕ) → length n.sessions ≡ suc k → IsOptional (block_after kinds.Setup).Is ts o → Every IsKnown ts → note_all n ts ≡ Ok m → Adds n m [] (one_block parts.SessionSetup (suc k) o)
 setup_maybe _ _ n m k len left_out known e = let same : n ≡ m = cc in subst (λ (x : Noted). Adds n x [] []) same (adds_nothing n)
 setup_maybe _ _ n m k len (there ts v is) known e = subst (λ (j : ℕ). Adds n m [] (own_block parts.Setup parts.SessionSetup j v ∷ [])) len (setup_adds ts v n m is known e)
 
@@ -312,11 +312,11 @@ teardown_maybe : (ts : List Token) (o : Option (List ℕ)) (n m : Noted) (k : �
 teardown_maybe _ _ n m k len left_out known e = let same : n ≡ m = cc in subst (λ (x : Noted). Adds n x [] []) same (adds_nothing n)
 teardown_maybe _ _ n m k len (there ts v is) known e = subst (λ (j : ℕ). Adds n m [] (own_block parts.Teardown parts.SessionTeardown j v ∷ [])) len (teardown_adds ts v n m is known e)
 
-main_teardown : (ts : List Token) (o : Option (List ℕ)) (n m : Noted) → length n.sessions ≡ 0 → IsOptional (block_after kinds.Teardown).Is ts o → Every IsKnown ts → note_all n ts ≡ Ok m → Adds n m [] (one_block parts.Teardown 0 o)
+pub main_teardown : (ts : List Token) (o : Option (List ℕ)) (n m : Noted) → length n.sessions ≡ 0 → IsOptional (block_after kinds.Teardown).Is ts o → Every IsKnown ts → note_all n ts ≡ Ok m → Adds n m [] (one_block parts.Teardown 0 o)
 main_teardown _ _ n m len left_out known e = let same : n ≡ m = cc in subst (λ (x : Noted). Adds n x [] []) same (adds_nothing n)
 main_teardown _ _ n m len (there ts v is) known e = subst (λ (j : ℕ). Adds n m [] (own_block parts.Teardown parts.SessionTeardown j v ∷ [])) len (teardown_adds ts v n m is known e)
 
-main_setups : (ts : List Token) (vs : List (List ℕ)) (n m : Noted) → length n.sessions ≡ 0 → IsMany (block_after kinds.Setup).Is ts vs → Every IsKnown ts → note_all n ts ≡ Ok m → Adds n m [] (map setup_block vs)
+pub main_setups : (ts : List Token) (vs : List (List ℕ)) (n m : Noted) → length n.sessions ≡ 0 → IsMany (block_after kinds.Setup).Is ts vs → Every IsKnown ts → note_all n ts ≡ Ok m → Adds n m [] (map setup_block vs)
 main_setups _ _ n m len none known e = let same : n ≡ m = cc in subst (λ (x : Noted). Adds n x [] []) same (adds_nothing n)
 main_setups _ _ n m len (one_more ts front back v vs split is more) known e =
     let p = in_parts n m ts front back split e in
@@ -326,13 +326,13 @@ main_setups _ _ n m len (one_more ts front back v vs split is more) known e =
 
 -- ---- a step
 
-record StepNamed (n m : Noted) (v : List ℕ) : Type 0 where
+pub record StepNamed (n m : Noted) (v : List ℕ) : Type 0 where
   pub name : m.name ≡ v
   pub word : m.word ≡ n.word
   pub fresh : number_of v m.blocks ≡ None
   pub adds : Adds n m [] []
 
-step_named : (o : Option ℕ) (v : List ℕ) (at : ℕ) (n m : Noted) → number_of v n.blocks ≡ o → note_step o v at n ≡ Ok m → StepNamed n m v
+pub step_named : (o : Option ℕ) (v : List ℕ) (at : ℕ) (n m : Noted) → number_of v n.blocks ≡ o → note_step o v at n ≡ Ok m → StepNamed n m v
 step_named (Some found) v at n m h e = absurd cc
 step_named None v at n m h e =
     let same : record n { name = v } ≡ m = cc in
@@ -343,7 +343,7 @@ step_is q v x k w c e =
     ap (λ (o : Option Word). block_of (part_of o (length q.sessions)) (length q.sessions) q.name x) w
     ∙ ap (λ (j : ℕ). block_of parts.Step j q.name x) c ∙ ap (λ (y : List ℕ). block_of parts.Step k y x) e
 
-step_adds : (ts : List Token) (s : StepText) (n m : Noted) → step.Is ts s → Every IsKnown ts → note_all n ts ≡ Ok m → Adds n m [] (step_block (length n.sessions) s ∷ [])
+pub step_adds : (ts : List Token) (s : StepText) (n m : Noted) → step.Is ts s → Every IsKnown ts → note_all n ts ≡ Ok m → Adds n m [] (step_block (length n.sessions) s ∷ [])
 unfolding step
 step_adds ts s n m is k e =
     let p = in_parts n m ts is.front is.back is.split e in
@@ -363,7 +363,7 @@ step_adds ts s n m is k e =
     own ∙ ap (λ (x : StepText). step_block (length n.sessions) x) text in
     subst (λ (x : Block). Adds n m [] (x ∷ [])) same (adds_both n p.mid m [] [] [] (new_block q.mid b.second ∷ []) w.adds (adds_both p.mid q.mid m [] [] [] (new_block q.mid b.second ∷ []) st.adds last))
 
-more_steps_add : (ts : List Token) (ss : List StepText) (n m : Noted) (k : ℕ) → length n.sessions ≡ k → IsMany step.Is ts ss → Every IsKnown ts → note_all n ts ≡ Ok m → Adds n m [] (map (step_block k) ss)
+pub more_steps_add : (ts : List Token) (ss : List StepText) (n m : Noted) (k : ℕ) → length n.sessions ≡ k → IsMany step.Is ts ss → Every IsKnown ts → note_all n ts ≡ Ok m → Adds n m [] (map (step_block k) ss)
 more_steps_add _ _ n m k len none known e = let same : n ≡ m = cc in subst (λ (x : Noted). Adds n x [] []) same (adds_nothing n)
 more_steps_add _ _ n m k len (one_more ts front back v vs split is more) known e =
     let p = in_parts n m ts front back split e in
@@ -371,7 +371,7 @@ more_steps_add _ _ n m k len (one_more ts front back v vs split is more) known e
     let first : Adds n p.mid [] (step_block k v ∷ []) = subst (λ (j : ℕ). Adds n p.mid [] (step_block j v ∷ [])) len (step_adds front v n p.mid is kn.0 p.first) in
     adds_both n p.mid m [] [] (step_block k v ∷ []) (map (step_block k) vs) first (more_steps_add back vs p.mid m k (same_count n p.mid (step_block k v ∷ []) first ∙ len) more kn.1 p.second)
 
-steps_add : (ts : List Token) (ss : List StepText) (n m : Noted) (k : ℕ) → length n.sessions ≡ k → steps.Is ts ss → Every IsKnown ts → note_all n ts ≡ Ok m → Adds n m [] (map (step_block k) ss)
+pub steps_add : (ts : List Token) (ss : List StepText) (n m : Noted) (k : ℕ) → length n.sessions ≡ k → steps.Is ts ss → Every IsKnown ts → note_all n ts ≡ Ok m → Adds n m [] (map (step_block k) ss)
 unfolding steps
 steps_add ts ss n m k len is known e =
     subst (λ (x : List StepText). Adds n m [] (map (step_block k) x)) (sym is.value_is)
@@ -399,7 +399,7 @@ session_parts_add ts v n m k x len is known e =
     let b = session_end_adds is.back is.second p.mid m k (same_count n p.mid _ a ∙ len) is.second_is kn.1 p.second in
     subst (λ (y : Option (List ℕ) × (List StepText × Option (List ℕ))). Adds n m [] (session_blocks (suc k) (session_of x y))) (sym is.value_is) (adds_both n p.mid m [] [] _ _ a b)
 
-session_by : (c : Bool) (v : List ℕ) (n m : Noted) (f : SpecFault) → (length n.sessions == 62) ≡ c → (if c then Err f else noting (record n { sessions = n.sessions ++ v ∷ [] })) ≡ Ok m → Adds n m (v ∷ []) []
+pub session_by : (c : Bool) (v : List ℕ) (n m : Noted) (f : SpecFault) → (length n.sessions == 62) ≡ c → (if c then Err f else noting (record n { sessions = n.sessions ++ v ∷ [] })) ≡ Ok m → Adds n m (v ∷ []) []
 session_by true v n m f h e = absurd cc
 session_by false v n m f h e =
     let same : record n { sessions = n.sessions ++ v ∷ [] } ≡ m = cc in
@@ -414,10 +414,10 @@ session_by false v n m f h e =
       differ = tt;
     })
 
-one_session : (n m : Noted) (v : List ℕ) (bs : List Block) → Adds n m (v ∷ []) bs → length m.sessions ≡ suc (length n.sessions)
+pub one_session : (n m : Noted) (v : List ℕ) (bs : List Block) → Adds n m (v ∷ []) bs → length m.sessions ≡ suc (length n.sessions)
 one_session n m v bs a = let e : length m.sessions ≡ length n.sessions + 1 = ap length a.sessions ∙ length-append n.sessions (v ∷ []) in omega arith
 
-session_adds : (ts : List Token) (s : SessionText) (n m : Noted) → session.Is ts s → Every IsKnown ts → note_all n ts ≡ Ok m → Adds n m (s.name ∷ []) (session_blocks (suc (length n.sessions)) s)
+pub session_adds : (ts : List Token) (s : SessionText) (n m : Noted) → session.Is ts s → Every IsKnown ts → note_all n ts ≡ Ok m → Adds n m (s.name ∷ []) (session_blocks (suc (length n.sessions)) s)
 unfolding session
 session_adds ts s n m is k e =
     let p = in_parts n m ts is.front is.back is.split e in
@@ -443,7 +443,7 @@ more_sessions_add _ _ n m k len (one_more ts front back v vs split is more) know
     let next : suc (length p.mid.sessions) ≡ k + 1 = omega arith in
     adds_both n p.mid m (v.name ∷ []) (map (λ s. s.name) vs) (session_blocks k v) (blocks_from (k + 1) vs) first (more_sessions_add back vs p.mid m (k + 1) next more kn.1 p.second)
 
-sessions_add : (ts : List Token) (ss : List SessionText) (n m : Noted) → length n.sessions ≡ 0 → sessions.Is ts ss → Every IsKnown ts → note_all n ts ≡ Ok m → Adds n m (map (λ s. s.name) ss) (blocks_from 1 ss)
+pub sessions_add : (ts : List Token) (ss : List SessionText) (n m : Noted) → length n.sessions ≡ 0 → sessions.Is ts ss → Every IsKnown ts → note_all n ts ≡ Ok m → Adds n m (map (λ s. s.name) ss) (blocks_from 1 ss)
 unfolding sessions
 sessions_add ts ss n m len is known e =
     let next : suc (length n.sessions) ≡ 1 = omega arith in
@@ -453,25 +453,25 @@ sessions_add ts ss n m len is known e =
 -- ---- a permutation
 
 -- the numbers of steps of these names
-abbrev numbers : List Block → List (List ℕ) → List ℕ
+abbrev pub numbers : List Block → List (List ℕ) → List ℕ
 numbers bs names = map (λ x. number_in bs x) names
 
 numbers_more : (bs : List Block) (names : List (List ℕ)) (v : List ℕ) → numbers bs (names ++ v ∷ []) ≡ numbers bs names ++ number_in bs v ∷ []
 numbers_more bs [] v = refl
 numbers_more bs (x ∷ names) v = ap (λ (l : List ℕ). number_in bs x ∷ l) (numbers_more bs names v)
 
-numbers_size : (bs : List Block) (names : List (List ℕ)) → length (numbers bs names) ≡ length names
+pub numbers_size : (bs : List Block) (names : List (List ℕ)) → length (numbers bs names) ≡ length names
 numbers_size bs [] = refl
 numbers_size bs (x ∷ names) = ap suc (numbers_size bs names)
 
-named_more : (bs : List Block) (names : List (List ℕ)) (v : List ℕ) → named_work bs (names ++ v ∷ []) ≡ named_work bs names + work_at bs (number_in bs v)
+pub named_more : (bs : List Block) (names : List (List ℕ)) (v : List ℕ) → named_work bs (names ++ v ∷ []) ≡ named_work bs names + work_at bs (number_in bs v)
 named_more bs [] v = omega arith
 named_more bs (x ∷ names) v = let e = named_more bs names v in omega (arith, e)
 
 abbrev pub StepsFit : List (List ℕ) → Type 0
 StepsFit names = length names ≤ 1000
 
-record InPermutation (n m : Noted) (names : List (List ℕ)) : Type 0 where
+pub record InPermutation (n m : Noted) (names : List (List ℕ)) : Type 0 where
   pub word : m.word ≡ Some words.Permutation
   pub sessions : m.sessions ≡ n.sessions
   pub blocks : m.blocks ≡ n.blocks
@@ -503,7 +503,7 @@ permutation_by false false at n m f g h i e =
       within = ltb-false 1000000 (n.work + base_work n.blocks) i;
     })
 
-on_permutation : (l : Lexeme) (at : ℕ) (n m : Noted) → among (number (kind l)) (4 ∷ []) ≡ true → note_lexeme l at n ≡ Ok m → InPermutation n m []
+pub on_permutation : (l : Lexeme) (at : ℕ) (n m : Noted) → among (number (kind l)) (4 ∷ []) ≡ true → note_lexeme l at n ≡ Ok m → InPermutation n m []
 on_permutation (lexemes.Word words.Setup) at n m e h = absurd (clash e refl)
 on_permutation (lexemes.Word words.Teardown) at n m e h = absurd (clash e refl)
 on_permutation (lexemes.Word words.Session) at n m e h = absurd (clash e refl)
@@ -517,7 +517,7 @@ on_permutation lexemes.Unclosed at n m e h = absurd (clash e refl)
 on_permutation lexemes.Paren at n m e h = absurd (clash e refl)
 on_permutation lexemes.Stray at n m e h = absurd (clash e refl)
 
-abbrev with_step : Noted → ℕ → Noted
+abbrev pub with_step : Noted → ℕ → Noted
 with_step n found = record n { current = Some (steps_in n.current ++ found ∷ []); work = n.work + work_at n.blocks found }
 
 found_by : (c d : Bool) (found : ℕ) (k n m : Noted) (names : List (List ℕ)) (v : List ℕ) (f g : SpecFault) → InPermutation k n names → number_of v k.blocks ≡ Some found
@@ -552,7 +552,7 @@ named_by None at k n m names v h o e = absurd cc
 named_by (Some found) at k n m names v h o e =
     found_by (nat_lt 1000000 (n.work + work_at n.blocks found)) (length (steps_in n.current) == 1000) found k n m names v (faults.Limit n.at limits.Work) (faults.Limit at limits.Steps) h o refl refl e
 
-name_in_permutation : (ts : List Token) (v : List ℕ) (k n m : Noted) (names : List (List ℕ)) → InPermutation k n names → name.Is ts v → Every IsKnown ts → note_all n ts ≡ Ok m → InPermutation k m (names ++ v ∷ [])
+pub name_in_permutation : (ts : List Token) (v : List ℕ) (k n m : Noted) (names : List (List ℕ)) → InPermutation k n names → name.Is ts v → Every IsKnown ts → note_all n ts ≡ Ok m → InPermutation k m (names ++ v ∷ [])
 name_in_permutation ts v k n m names h is known e =
     let named = after_name ts v n m is known e in
     let given : note_named (number_of v n.blocks) named.at n ≡ Ok m = ap (λ (o : Option Word). note_name o v named.at n) (sym h.word) ∙ named.gives in
@@ -570,7 +570,7 @@ names_in_permutation _ _ k n m names h (one_more ts front back v vs split is mor
     subst (λ (l : List (List ℕ)). InPermutation k m l) (append_assoc names (v ∷ []) vs)
     (names_in_permutation back vs k q.mid m (names ++ v ∷ []) first more kn.1 q.second)
 
-permutation_adds : (ts : List Token) (vs : List (List ℕ)) (n m : Noted) → permutation.Is ts vs → Every IsKnown ts → note_all n ts ≡ Ok m → InPermutation n m vs
+pub permutation_adds : (ts : List Token) (vs : List (List ℕ)) (n m : Noted) → permutation.Is ts vs → Every IsKnown ts → note_all n ts ≡ Ok m → InPermutation n m vs
 unfolding permutation
 permutation_adds ts vs n m is k e =
     let p = in_parts n m ts is.front is.back is.split e in
@@ -592,7 +592,7 @@ pub record Permutes (n m : Noted) (vs : List (List (List ℕ))) : Type 0 where
   pub work : m.work ≡ n.work + all_work n.blocks vs
   pub within : n.work ≤ 1000000 → m.work ≤ 1000000
 
-permuted : (n m : Noted) (names : List (List ℕ)) → InPermutation n m names → Permutes n m (names ∷ [])
+pub permuted : (n m : Noted) (names : List (List ℕ)) → InPermutation n m names → Permutes n m (names ∷ [])
 permuted n m names h =
     let all : all_permutations m ≡ all_permutations n ++ numbers n.blocks names ∷ [] =
     ap (λ (o : Option (List ℕ)). m.permutations ++ begun_ones o) h.current ∙ ap (λ (l : List (List ℕ)). l ++ numbers n.blocks names ∷ []) h.permutations in

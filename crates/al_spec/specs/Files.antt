@@ -20,16 +20,14 @@ use Rattle.al_spec.specs.Keeps.{Keeps, limits}
 abbrev pub spec_noted : Noted → Spec
 spec_noted n = record { sessions = n.sessions; blocks = n.blocks; permutations = all_permutations n }
 
--- Bytes are a spec file: UTF-8, whose tokens are a text of the grammar, none of which breaks a rule. Its spec is what
--- the grammar says.
+-- Bytes are a spec file: UTF-8, whose tokens are a text of the grammar that keeps the rules. Its spec is what the grammar
+-- says.
 pub record IsSpecFile (bytes : List ℕ) (spec : Spec) : Type 0 where
   pub utf8 : IsUtf8 bytes
   pub tokens : List Token
   pub tokens_are : AreTokens bytes tokens
   pub value : File
   pub is : file.Is tokens value
-  pub noted : Noted
-  pub says : note_all nothing_noted tokens ≡ Ok noted
   pub means : spec ≡ spec_of value
   pub keeps : Keeps limits value
 
