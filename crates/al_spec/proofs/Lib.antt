@@ -5,6 +5,7 @@ pub mod Quotes
 pub mod Sounds
 pub mod Starts
 pub mod Pieces
+pub mod Texts
 pub mod Unique
 pub mod FileLaws
 pub mod Readers
