@@ -71,9 +71,7 @@ pub fn is_plain(name: &str) -> bool
 {
     match name.as_bytes() {
         [] => false,
-        [first, rest @ ..] => {
-            begins_name(*first) && all_go_on(rest) && word_of(name).is_none()
-        }
+        [first, rest @ ..] => { begins_name(*first) && all_go_on(rest) && word_of(name).is_none() }
     }
 }
 

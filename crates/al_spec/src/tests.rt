@@ -1,4 +1,4 @@
-use crate::{Spec, SpecFault, SpecLimit, read_spec};
+use crate::{Spec, SpecFault, SpecLimit, is_plain, read_spec};
 use al_values::{Cant, NoMemory};
 use std::alloc::Global;
 use std::fmt::Write;
@@ -64,6 +64,10 @@ fn specs(rt: HostRuntime) -> Result<(), Fail> {
             "s; Step 1 a=\n A {\n|",
         ),
         ("session s step a{A}permutation a", "s; Step 1 a=A| [0]"),
+        (
+            "session \"é\"\"ü\" step \"a\"\"\"\"é\" {x} step \"b\" {} permutation \"a\"\"\"\"é\" b",
+            "é\"ü; Step 1 a\"\"é=x| Step 1 b=| [0, 1]",
+        ),
     ];
     for (text, wanted) in rows {
         let spec = read_spec(rt.alloc(), text.as_bytes())?;
@@ -257,6 +261,89 @@ fn limits(rt: HostRuntime) -> Result<(), Fail> {
     for (text, wanted) in rows {
         let found = fault_of(alloc, text.as_bytes())?;
         assert_eq!(rt; found, wanted);
+    }
+    Ok(())
+}
+
+// A setup or teardown block of the file or of a session that brings the work to its limit, and one with a `;` more.
+#[test]
+fn fixed_work(rt: HostRuntime) -> Result<(), Fail> {
+    let alloc = rt.alloc();
+    // The step, named a thousand times, is work 999,000.
+    let step = repeated(alloc, "} session s step a {", ";", 998, "} ")?;
+    let own_step = repeated(alloc, "} step a {", ";", 998, "} ")?;
+    let before = repeated(alloc, "session s step a {", ";", 998, "} teardown {")?;
+    let named = repeated(alloc, "permutation", " a", 1000, "")?;
+    let rows = [
+        ("setup {", step.as_str(), 2027),
+        ("teardown {", step.as_str(), 2030),
+        ("session s setup {", own_step.as_str(), 2027),
+        (before.as_str(), "} ", 2030),
+    ];
+    for (front, back, at) in rows {
+        let within = repeated(alloc, front, ";", 999, back)?;
+        let text = repeated(alloc, within.as_str(), named.as_str(), 1, "")?;
+        let found = fault_of(alloc, text.as_bytes())?;
+        assert_eq!(rt; found, None);
+        let past = repeated(alloc, front, ";", 1000, back)?;
+        let text = repeated(alloc, past.as_str(), named.as_str(), 1, "")?;
+        let found = fault_of(alloc, text.as_bytes())?;
+        assert_eq!(rt;
+            found,
+            Some(SpecFault::Limit {
+                at,
+                what: SpecLimit::Work
+            })
+        );
+    }
+    Ok(())
+}
+
+#[test]
+fn over_a_mebibyte(rt: HostRuntime) -> Result<(), Fail> {
+    let alloc = rt.alloc();
+    let mut text = String::from_str(alloc, "session s\n")?;
+    for i in 0..20_000u32 {
+        write!(
+            text,
+            "step a{i:05} {{ SELECT * FROM a_table_with_a_long_name; -- {i:05} }}\n"
+        )?;
+    }
+    assert!(rt; text.len() > 1_048_576);
+    let spec = read_spec(alloc, text.as_bytes())?;
+    assert_eq!(rt; spec.blocks.len(), 20_000);
+    let mut last = String::new(alloc);
+    if let Some(block) = spec.blocks.get(19_999) {
+        write!(last, "{} {}", block.name, block.text)?;
+    }
+    assert!(rt;
+        last.as_str() == "a19999 SELECT * FROM a_table_with_a_long_name; -- 19999",
+        "{last}"
+    );
+    Ok(())
+}
+
+#[test]
+fn plain_names(rt: HostRuntime) -> Result<(), Fail> {
+    let rows = [
+        ("a", true),
+        ("_", true),
+        ("Setup$1", true),
+        ("é", true),
+        ("steps", true),
+        ("step", false),
+        ("setup", false),
+        ("teardown", false),
+        ("session", false),
+        ("permutation", false),
+        ("", false),
+        ("1a", false),
+        ("$a", false),
+        ("a b", false),
+        ("a\"", false),
+    ];
+    for (name, wanted) in rows {
+        assert!(rt; is_plain(name) == wanted, "{name}");
     }
     Ok(())
 }
