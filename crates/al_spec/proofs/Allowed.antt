@@ -22,12 +22,12 @@ use Rattle.al_spec.specs.declared.spec.SpecFault.TheVariants as faults
 use Rattle.al_spec.specs.declared.spec.SpecLimit.TheVariants as limits
 use Rattle.al_spec.specs.declared.notes.Noted.{Noted}
 use Rattle.al_spec.specs.Grammar.{kind, number, name_in, text_in, word, name, block, block_after, step, step_of, steps, session_end, session_parts, session_of, session, sessions, permutation, bodies, late, file, file_of, StepText, SessionText, File}
-use Rattle.al_spec.specs.Notes.{note, note_lexeme, note_name, note_block, note_session, note_step, note_named, note_permutation, note_all, and_note, nothing_noted, all_permutations, steps_in, number_of, number_or, base_work, work_at}
-use Rattle.al_spec.specs.Meaning.{number_in, one_block, setup_block, step_block, session_blocks, blocks_from, blocks_of}
+use Rattle.al_spec.specs.Notes.{note_lexeme, note_name, note_block, note_session, note_step, note_named, note_all, and_note, nothing_noted, all_permutations, steps_in, number_of, number_or, base_work, work_at}
+use Rattle.al_spec.specs.Meaning.{number_in, one_block, setup_block, step_block, session_blocks, blocks_from}
 use Rattle.al_spec.specs.Keeps.{Each, Keeps, DifferAfter, IsStepName, named_work, all_work, limits as most}
 use Rattle.al_spec.proofs.Known.{NotOpen, IsKnown}
 use Rattle.al_spec.proofs.NoteParts.{notes_append}
-use Rattle.al_spec.proofs.Values.{known_parts, no_some, TextFits, Adds, Worded, Named, StepNamed, InPermutation, noting, new_block, numbers, with_step, adds_both, same_count, after_setup, after_session, after_step, after_name, setup_maybe, main_teardown, main_setups, step_named, step_adds, more_steps_add, steps_add, session_by, one_session, session_adds, sessions_add, named_more, numbers_size, on_permutation, name_in_permutation, permutation_adds, permuted, alone}
+use Rattle.al_spec.proofs.Values.{known_parts, no_some, TextFits, Adds, InPermutation, noting, new_block, numbers, with_step, adds_both, same_count, after_session, after_step, after_name, setup_maybe, main_teardown, main_setups, step_adds, session_by, one_session, session_adds, sessions_add, named_more, numbers_size, on_permutation, name_in_permutation, permutation_adds, permuted, alone}
 
 -- notes that go through
 record Goes (n : Noted) (ts : List Token) : Type 0 where

@@ -1,11 +1,10 @@
 -- The tokens of a spec file's text: none is open.
-use Rattle.std.proofs.Common.{◌≡◌, ℕ, Bool, true, false, List, [], ◌∷◌, Option, Some, None, refl, sym, subst, inl, inr}
-use Rattle.std.specs.Prelude.{if◌then◌else◌, bytes_eq, codes, slice_range}
+use Rattle.std.proofs.Common.{◌≡◌, ℕ, true, false, List, [], ◌∷◌, Option, Some, None, refl, sym, subst, inl, inr}
+use Rattle.std.specs.Prelude.{slice_range}
 use Rattle.al_grammar.specs.Kinds.{among}
 use Rattle.al_grammar.proofs.FirstTokens.{clash}
 use Rattle.al_grammar.proofs.Every.{Every, Keeps, every_append, every_split, keeps_leaf, keeps_pair, keeps_optional, keeps_many}
 use Rattle.al_spec.specs.declared.kinds.Word.{Word}
-use Rattle.al_spec.specs.declared.kinds.Word.TheVariants as words
 use Rattle.al_spec.specs.declared.kinds.Kind.{Kind}
 use Rattle.al_spec.specs.declared.kinds.Kind.TheVariants as kinds
 use Rattle.al_spec.specs.declared.kinds.Lexeme.{Lexeme}

@@ -1,6 +1,6 @@
 -- The spec of every file that keeps the rules is sound.
-use Rattle.std.proofs.Common.{◌≡◌, ℕ, zero, suc, ◌+◌, ◌≤◌, ◌<◌, ◌^◌, Bool, true, false, List, [], ◌∷◌, ◌++◌, length, Option, Some, None, refl, sym, ap, ◌∙◌, arith, subst}
-use Rattle.std.specs.Prelude.{if◌then◌else◌, ◌&&◌, map, is_some, slice_get, bytes_eq}
+use Rattle.std.proofs.Common.{◌≡◌, ℕ, suc, ◌+◌, ◌≤◌, ◌<◌, ◌^◌, Bool, true, false, List, [], ◌∷◌, ◌++◌, length, Option, Some, None, refl, sym, ap, arith, subst}
+use Rattle.std.specs.Prelude.{if◌then◌else◌, ◌&&◌, map, is_some, bytes_eq}
 use Rattle.al_grammar.proofs.FirstTokens.{clash}
 use Rattle.al_spec.specs.declared.spec.Part.{Part}
 use Rattle.al_spec.specs.declared.spec.Part.TheVariants as parts
@@ -10,7 +10,7 @@ use Rattle.al_spec.specs.Grammar.{File, SessionText, StepText}
 use Rattle.al_spec.specs.Notes.{is_step, number_from, number_of, number_or}
 use Rattle.al_spec.specs.Meaning.{number_in, one_block, setup_block, step_block, session_blocks, blocks_from, blocks_of, spec_of}
 use Rattle.al_spec.specs.Keeps.{Each, Keeps, IsStepName, limits}
-use Rattle.al_spec.specs.Sound.{PartFits, BlockFits, IsStepAt, is_setup, IsSound}
+use Rattle.al_spec.specs.Sound.{BlockFits, IsStepAt, is_setup, IsSound}
 use Rattle.al_spec.proofs.Values.{each_append}
 
 -- ---- a step's number

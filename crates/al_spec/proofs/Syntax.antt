@@ -1,5 +1,5 @@
 -- From what a reader leaves to its answer on a whole text.
-use Rattle.std.proofs.Common.{◌≡◌, ℕ, List, [], ◌∷◌, ◌++◌, length, take, drop, Ok, Err, refl, sym, ap, ◌∙◌, ◌+◌, ◌-◌, ◌≤◌, length-append, length-drop, arith}
+use Rattle.std.proofs.Common.{◌≡◌, ℕ, List, [], ◌∷◌, length, take, drop, Ok, Err, refl, sym, ap, ◌∙◌, ◌+◌, ◌-◌, ◌≤◌, length-append, length-drop, arith}
 use Rattle.std.proofs.Math.Seq.{drop-append_seam, take-length}
 use Rattle.std.proofs.lemmas.List.{drop-drop}
 use Rattle.al_grammar.specs.Rules.{Shape, Rule, Step, read, fault}

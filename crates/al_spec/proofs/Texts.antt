@@ -1,5 +1,5 @@
 -- Small spec files: what is read, which faults others have, and each limit from both sides.
-use Rattle.std.proofs.Common.{◌≡◌, ℕ, true, false, List, [], ◌∷◌, Option, Some, None, Ok, Err, refl, arith}
+use Rattle.std.proofs.Common.{◌≡◌, ℕ, true, false, List, [], ◌∷◌, Some, None, Ok, Err, refl, arith}
 use Rattle.std.specs.Prelude.{codes}
 use Rattle.al_spec.specs.declared.kinds.Word.{Word}
 use Rattle.al_spec.specs.declared.kinds.Word.TheVariants.{Setup, Teardown, Session, Step, Permutation}
@@ -8,11 +8,10 @@ use Rattle.al_spec.specs.declared.kinds.Token.{Token}
 use Rattle.al_spec.specs.declared.spec.Part.{Part}
 use Rattle.al_spec.specs.declared.spec.Part.TheVariants as parts
 use Rattle.al_spec.specs.declared.spec.Block.{Block}
-use Rattle.al_spec.specs.declared.spec.Spec.{Spec}
 use Rattle.al_spec.specs.declared.spec.SpecFault.TheVariants.{Syntax, Marker, TwoSteps, NoStep}
 use Rattle.al_spec.specs.Grammar.{file, File, block_after, step, steps, session_end, session_parts, session, sessions, permutation, bodies, late}
 use Rattle.al_spec.specs.Notes.{base_work}
-use Rattle.al_spec.specs.Meaning.{blocks_of, spec_of}
+use Rattle.al_spec.specs.Meaning.{blocks_of}
 use Rattle.al_spec.specs.Keeps.{Limits, Keeps}
 use Rattle.al_spec.specs.Files.{answer}
 use Rattle.al_spec.specs.Tokens.{word_of, is_plain}
