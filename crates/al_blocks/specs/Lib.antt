@@ -1,0 +1,4 @@
+pub mod Steps
+pub mod Lexemes
+pub mod Blocks
+pub mod Reading
