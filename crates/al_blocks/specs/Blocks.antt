@@ -3,6 +3,7 @@
 --   statement := CREATE TABLE name "(" name INTEGER { "," name INTEGER } ")" | INSERT INTO name VALUES "(" value { "," value } ")"
 --              | SELECT "*" FROM name | ALTER TABLE name ADD COLUMN name INTEGER [ DEFAULT digits ] | BEGIN | COMMIT | ROLLBACK
 --   value     := digits | NULL
+-- Comments part tokens. Names in double quotes, texts, and numbers of more than nine digits are in no statement.
 use Rattle.std.specs.Prelude.{◌≡◌, ℕ, ◌<◌, Bool, true, not, ◌&&◌, List, [], ◌∷◌, ◌++◌, length, map, Option, Some, None, nat_le, codes}
 use Rattle.std.specs.List.{flat_map, list_any, AllByRecursion}
 use Rattle.std.specs.Option.{option_to_list}
