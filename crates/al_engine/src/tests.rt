@@ -235,7 +235,11 @@ fn waits_for_close(rt: HostRuntime) -> Result<(), Fail> {
 }
 
 // The table is made, where the journal may weigh so much.
-fn created(alloc: Global, weight: u32) -> Result<Engine, NoMemory> {
+fn created(alloc: Global, weight: u32) -> Result<Engine, NoMemory>
+    ensures sessions { IfOk result (λ engine. engine.terms.scripts.sessions ≡ 2) }
+    ensures insert { IfOk result (λ engine. option_map (λ b. b.session) (slice_get engine.terms.scripts.blocks 4) ≡ Some 1) }
+    ensures open { IfOk result (λ (engine : Ran). (s : ℕ) → closed engine.past s ≡ false) }
+{
     let mut engine = Engine::open(alloc, scripts(alloc)?, weight)?;
     run(alloc, &mut engine, 0, CREATE)?;
     Ok(engine)
@@ -249,5 +253,26 @@ fn ends_at_the_limit(rt: HostRuntime) -> Result<(), Fail> {
         let engine = created(rt.alloc(), weight)?;
         assert_eq!(rt; kinds(rt.alloc(), engine.history())?.as_str(), entries);
     }
+    Ok(())
+}
+
+// So many rows are added, each in a step of its own.
+fn insert_often(alloc: Global, engine: &mut Engine, rows: usize) -> Result<(), NoMemory>
+    requires known { engine.old.terms.scripts.sessions ≡ 2 }
+    requires of_session { option_map (λ b. b.session) (slice_get engine.old.terms.scripts.blocks 4) ≡ Some 1 }
+    requires open { (s : ℕ) → closed engine.old.past s ≡ false }
+{
+    for _ in 0..rows {
+        run(alloc, engine, 1, INSERT)?;
+    }
+    Ok(())
+}
+
+// A run of thousands of entries. Each INSERT has eight: Give, Start, Lock, Look, Add, Done, Commit and End.
+#[test]
+fn runs_on(rt: HostRuntime) -> Result<(), Fail> {
+    let mut engine = created(rt.alloc(), WEIGHT)?;
+    insert_often(rt.alloc(), &mut engine, 800)?;
+    assert_eq!(rt; engine.history().len(), 7 + 800 * 8);
     Ok(())
 }

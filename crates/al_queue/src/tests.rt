@@ -158,3 +158,31 @@ fn withdrawn_from_the_middle(rt: HostRuntime) -> Result<(), Fail> {
     assert!(rt; !locks.waits(1));
     Ok(())
 }
+
+// Eight requests wait for one table, and are granted one after the other.
+#[test]
+fn many_waiters(rt: HostRuntime) -> Result<(), Fail> {
+    let mut locks = LockTable::new(rt.alloc(), 9)?;
+    let all = Mode::AccessExclusive;
+    let calls = [
+        Call::Ask(grant(0, 1, all), Asked::Granted),
+        Call::Ask(grant(1, 1, all), Asked::Queued { place: 0 }),
+        Call::Ask(grant(2, 1, all), Asked::Queued { place: 1 }),
+        Call::Ask(grant(3, 1, all), Asked::Queued { place: 2 }),
+        Call::Ask(grant(4, 1, all), Asked::Queued { place: 3 }),
+        Call::Ask(grant(5, 1, all), Asked::Queued { place: 4 }),
+        Call::Ask(grant(6, 1, all), Asked::Queued { place: 5 }),
+        Call::Ask(grant(7, 1, all), Asked::Queued { place: 6 }),
+        Call::Ask(grant(8, 1, all), Asked::Queued { place: 7 }),
+        Call::Release(0, &[grant(1, 1, all)]),
+        Call::Withdraw(5, &[]),
+        Call::Release(1, &[grant(2, 1, all)]),
+        Call::Release(2, &[grant(3, 1, all)]),
+        Call::Release(3, &[grant(4, 1, all)]),
+        Call::Release(4, &[grant(6, 1, all)]),
+    ];
+    for call in &calls {
+        check(&rt, &mut locks, call)?;
+    }
+    Ok(())
+}
