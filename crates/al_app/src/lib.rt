@@ -1,14 +1,12 @@
 //! The top calls of `alterlive`: a spec file is read, its permutations are run, and the report is written.
 #![tactic(auto)]
-
 mod answers;
-mod first;
+mod blocks;
 mod report;
 mod runs;
+mod scripts;
 mod status;
 mod top;
-
 pub use answers::{answer, answer_alone};
-pub use first::read_first;
 pub use report::print;
 pub use status::{Answer, Status};

@@ -12,6 +12,8 @@ fn push_cause(text: &mut String, cause: &Cause) -> Result<(), NoMemory>
         (string_bytes text.new ≡ string_bytes text.old ++ cause_text cause.now) }
 {
     match cause {
+        Cause::Syntax { at } => write!(text, "42601: syntax error at byte {at}")?,
+        Cause::NotInProfile { at } => write!(text, "0A000: not supported at byte {at}")?,
         Cause::NoTable { name } => write!(text, "42P01: table \"{name}\" does not exist")?,
         Cause::TwiceTable { name } => write!(text, "42P07: table \"{name}\" already exists")?,
         Cause::TwiceColumn { name } => write!(text, "42701: column \"{name}\" already exists")?,
@@ -29,6 +31,8 @@ fn limit_name(what: RunLimit) -> &'static str
     ensures { result.now ≡ limit_name what }
 {
     match what {
+        RunLimit::Tables => "tables",
+        RunLimit::Columns => "columns",
         RunLimit::Journal => "journal",
     }
 }
