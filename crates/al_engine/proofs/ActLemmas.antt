@@ -7,6 +7,7 @@ use Rattle.al_queue.specs.Waits.{holds}
 use Rattle.al_history.specs.Constraint.{Constraint}
 use Rattle.al_history.specs.declared.entry.Cause.{Cause}
 use Rattle.al_history.specs.declared.entry.Cause.TheVariants as causes
+use Rattle.al_history.specs.declared.entry.RunLimit.TheVariants as limits
 use Rattle.al_history.specs.declared.entry.Entry.TheVariants.{Look, Add, Read, Alter}
 use Rattle.al_history.specs.declared.entry.Reply.TheVariants as replies
 use Rattle.al_history.specs.declared.entry.Tag.TheVariants as tags
@@ -17,7 +18,7 @@ use Rattle.al_history.specs.Past.{past_of}
 use Rattle.al_history.specs.Cause.{count_cause, alter_cause, refusal, added_weight, answered_weight, first_of, cause_at}
 use Rattle.al_history.specs.Weight.{row_weight, read_weight}
 use Rattle.al_history.proofs.Clear.{first_clear}
-use Rattle.al_history.specs.Change.{filled, alteration, Passes}
+use Rattle.al_history.specs.Change.{filled, alteration, Passes, column_cause, unless_refused, Alteration}
 use Rattle.al_history.specs.Database.{Table, Database, named, has_column}
 use Rattle.al_history.specs.Hand.{hand, session_of, statement_of}
 use Rattle.al_history.specs.Query.{column_names, answer}
@@ -37,7 +38,8 @@ use Rattle.al_engine.specs.Using.{Uses}
 use Rattle.al_engine.specs.Stored.{slot_of, kept_of, all_kept, seen_by, of_columns, with_stored_row, with_stored_column}
 use Rattle.al_engine.proofs.StatementLemmas.{at_work, acted_goes, can_be_done, StaysBut, amid_after, clear_after}
 use Rattle.al_engine.proofs.StoredLemmas.{counts_by_columns, alters_by_columns, store_after_insert, store_after_alter}
-use Rattle.al_engine.proofs.UseLemmas.{judged_after, HasActed, HasFailed, done_still, found_so, looked_works, looked_stage, acts_by, look_fails}
+use Rattle.al_engine.proofs.UseLemmas.{judged_after, HasActed, HasFailed, done_still, found_so, looked_works, looked_stage, acts_by, look_fails, looked_goes}
+use Rattle.al_history.specs.Limits.{most_columns}
 
 count_uncut : (got : ℕ) (v : Table) (cause : Cause) → Some cause ≡ count_cause got (Some v) → used_by cause ≡ 0
 count_uncut got v cause is = by_test (nat_lt (length v.columns) got) is where
@@ -45,11 +47,20 @@ count_uncut got v cause is = by_test (nat_lt (length v.columns) got) is where
   by_test true is = let one : cause ≡ causes.Count (length v.columns) got = cc in rw one refl
   by_test false is = absurd cc
 
+column_uncut : (name : List ℕ) (columns : List Column) (cause : Cause) → Some cause ≡ column_cause name columns → used_by cause ≡ 0
+column_uncut name columns cause is = by_test (has_column columns name) (nat_lt (length columns) most_columns) is where
+  by_test : (a b : Bool) → Some cause ≡ cond a (Some (causes.TwiceColumn name)) (cond b None (Some (causes.Limit limits.Columns (length columns + 1)))) → used_by cause ≡ 0
+  by_test true b is = let one : cause ≡ causes.TwiceColumn name = cc in rw one refl
+  by_test false true is = absurd cc
+  by_test false false is = let one : cause ≡ causes.Limit limits.Columns (length columns + 1) = cc in rw one refl
+
+-- a refusal is the cause that stands in the way
+refusal_is : (o : Option Cause) (alteration : Alteration) → refusal (unless_refused o alteration) ≡ o
+refusal_is None alteration = refl
+refusal_is (Some cause) alteration = refl
+
 alter_uncut : (column : Column) (v : Table) (cause : Cause) → Some cause ≡ alter_cause column (Some v) → used_by cause ≡ 0
-alter_uncut column v cause is = by_test (has_column v.columns column.name) is where
-  by_test : (b : Bool) → Some cause ≡ refusal (cond b (Err (causes.TwiceColumn column.name)) (Ok (record { columns = v.columns ++ column ∷ []; row_map = λ (row : List Value). row ++ column.default ∷ []; tests = [] }))) → used_by cause ≡ 0
-  by_test true is = let one : cause ≡ causes.TwiceColumn column.name = cc in rw one refl
-  by_test false is = absurd cc
+alter_uncut column v cause is = column_uncut column.name v.columns cause (is ∙ refusal_is (column_cause column.name v.columns) _)
 
 -- the first of two causes that were worked out
 pub first_both : (told first second a b : Option Cause) → told ≡ first_of a b → a ≡ first → b ≡ second → told ≡ first_of first second
@@ -80,7 +91,7 @@ module _ (terms : Terms) (p : Parts) (s : ℕ) (t : Session) (x : ℕ) (name : L
           let w = looked_works terms p s t x (statements.Insert name written) name RowExclusive u at table found there locked looks in
           comes_add terms (Look x ∷ past_of p.journal) s (at_work (record t { wants = None }) x (Some (past_of p.journal))) w.legal w.doing_is w.settled x w.by table.number row
           (acts_by terms p s t x (statements.Insert name written) name RowExclusive u at table found there locked looks (insert_cause ∙ fits))
-          (rw (w.statement_is, insert_found) (refl, row_is ∙ ap (λ (cs : List Column). filled cs written) columns_are)) refl
+          (rw (w.statement_is, insert_found) (refl, row_is ∙ ap (λ (cs : List Column). filled cs written) columns_are)) refl (looked_goes terms p s t x (statements.Insert name written) name RowExclusive u at table found there locked looks)
 
       add_stage : Stage terms s (past_of p.journal) (Add x table.number row ∷ Look x ∷ past_of p.journal) 1
       add_stage =
@@ -96,7 +107,7 @@ module _ (terms : Terms) (p : Parts) (s : ℕ) (t : Session) (x : ℕ) (name : L
           record {
             amid = amid_after terms p q s 1 u.kept stage stays (rw (tables, past_is) (store_after_insert terms (Look x ∷ past_of p.journal) p.tables x p.committed at table r row w.legal u.kept.sound.stored u.kept.sound.tells there place maker values));
             clear = clear_after terms p q s 1 u.kept stage stays;
-            done = rw past_is (done_still terms _ s t _ (can_be_done terms (Look x ∷ past_of p.journal) s (record t { wants = None }) x (statements.Insert name written) (Some (past_of p.journal)) w (Add x table.number row) w.by (λ d. refl) (replies.Tag tags.Insert 1) refl refl));
+            done = rw past_is (done_still terms _ s t _ (can_be_done terms (Look x ∷ past_of p.journal) s (record t { wants = None }) x (statements.Insert name written) (Some (past_of p.journal)) w (Add x table.number row) w.by (λ d. refl) (acted_goes terms (Look x ∷ past_of p.journal) s (record t { wants = None }) x (statements.Insert name written) (Some (past_of p.journal)) w (Add x table.number row) w.by (λ d. refl) w.settled add_may) (replies.Tag tags.Insert 1) refl refl));
             stage = stage;
             more = rw past_is (omega arith);
           }
@@ -120,7 +131,7 @@ module _ (terms : Terms) (p : Parts) (s : ℕ) (t : Session) (x : ℕ) (name : L
         let is = found_so terms p s t x (statements.Select name) name AccessShare u at table found there in
         comes_read terms (Look x ∷ past_of p.journal) s (at_work (record t { wants = None }) x (Some (past_of p.journal))) w.legal w.doing_is w.settled x w.by names rows
         (acts_by terms p s t x (statements.Select name) name AccessShare u at table found there locked looks (select_cause ∙ fits))
-        (rw (w.statement_is, is) (names_are, rows_are)) refl
+        (rw (w.statement_is, is) (names_are, rows_are)) refl (looked_goes terms p s t x (statements.Select name) name AccessShare u at table found there locked looks)
 
     pub select_acts : (entry : ℕ) (q : Parts) → over_by terms.weight (p.weight + 1) (read_weight names rows) ≡ None → entry ≡ length (Look x ∷ past_of p.journal) → StaysBut p q → q.tables ≡ p.tables → past_of q.journal ≡ Read x names rows ∷ Look x ∷ past_of p.journal → HasActed terms p q s t (replies.Rows entry) 0
     select_acts entry q fits place stays tables past_is =
@@ -130,7 +141,7 @@ module _ (terms : Terms) (p : Parts) (s : ℕ) (t : Session) (x : ℕ) (name : L
         record {
           amid = amid_after terms p q s 0 u.kept stage stays (rw (tables, past_is) u.kept.sound.stored);
           clear = clear_after terms p q s 0 u.kept stage stays;
-          done = rw past_is (done_still terms _ s t _ (can_be_done terms (Look x ∷ past_of p.journal) s (record t { wants = None }) x (statements.Select name) (Some (past_of p.journal)) w (Read x names rows) w.by (λ d. refl) (replies.Rows entry) (ap replies.Rows place) refl));
+          done = rw past_is (done_still terms _ s t _ (can_be_done terms (Look x ∷ past_of p.journal) s (record t { wants = None }) x (statements.Select name) (Some (past_of p.journal)) w (Read x names rows) w.by (λ d. refl) (acted_goes terms (Look x ∷ past_of p.journal) s (record t { wants = None }) x (statements.Select name) (Some (past_of p.journal)) w (Read x names rows) w.by (λ d. refl) w.settled (read_may fits)) (replies.Rows entry) (ap replies.Rows place) refl));
           stage = stage;
           more = rw past_is (omega arith);
         }
@@ -150,34 +161,34 @@ module _ (terms : Terms) (p : Parts) (s : ℕ) (t : Session) (x : ℕ) (name : L
     alter_fails cause q is stays tables past_is = look_fails terms p s t x (statements.AddColumn name column) name AccessExclusive u at table found there locked looks cause q (first_uncut _ _ cause (λ c h. alter_uncut column (of_columns columns) c h) (λ c h. over_uncut _ _ _ c h) is) (alter_refused ∙ sym is) stays tables past_is
 
     passes : (v : Table) (db : Database) → alter_cause column (Some v) ≡ None → Passes (alteration column v) db
-    passes v db none = by_test (has_column v.columns column.name) none where
-      by_test : (b : Bool) → refusal (cond b (Err (causes.TwiceColumn column.name)) (Ok (record { columns = v.columns ++ column ∷ []; row_map = λ (row : List Value). row ++ column.default ∷ []; tests = [] }))) ≡ None → Passes (cond b (Err (causes.TwiceColumn column.name)) (Ok (record { columns = v.columns ++ column ∷ []; row_map = λ (row : List Value). row ++ column.default ∷ []; tests = [] }))) db
-      by_test true none = absurd cc
-      by_test false none = λ (c : Constraint) among v there same. absurd c.demand
+    passes v db none = by_cause (column_cause column.name v.columns) (sym (refusal_is (column_cause column.name v.columns) _) ∙ none) where
+      by_cause : (o : Option Cause) → o ≡ None → Passes (unless_refused o (record { columns = v.columns ++ column ∷ []; row_map = λ (row : List Value). row ++ column.default ∷ []; tests = [] })) db
+      by_cause (Some cause) none = absurd cc
+      by_cause None none = λ (c : Constraint) among v there same. absurd c.demand
 
     -- it adds the column
     module _ (fits : first_of (alter_cause column (Some (of_columns columns))) (over_by terms.weight (p.weight + 1) 1) ≡ None) where
       shape_fits : alter_cause column (Some (of_columns columns)) ≡ None
       shape_fits = first_clear (alter_cause column (Some (of_columns columns))) _ fits
 
-      alter_may : MayCome terms (Look x ∷ past_of p.journal) (Alter x table.number 0 [])
+      alter_may : MayCome terms (Look x ∷ past_of p.journal) (Alter x table.number t.done [])
       alter_may =
           let w = looked_works terms p s t x (statements.AddColumn name column) name AccessExclusive u at table found there locked looks in
           comes_alter terms (Look x ∷ past_of p.journal) s (at_work (record t { wants = None }) x (Some (past_of p.journal))) w.legal w.doing_is w.settled x w.by table.number
           (acts_by terms p s t x (statements.AddColumn name column) name AccessExclusive u at table found there locked looks (alter_refused ∙ fits))
-          (rw (w.statement_is, alter_found) (refl, passes (shown_table (seen_by (Some x) p.committed) (kept_of table)) _ (sym (alters_by_columns columns column (shown_table (seen_by (Some x) p.committed) (kept_of table)) columns_are) ∙ shape_fits))) refl
+          (rw (w.statement_is, alter_found) (refl, passes (shown_table (seen_by (Some x) p.committed) (kept_of table)) _ (sym (alters_by_columns columns column (shown_table (seen_by (Some x) p.committed) (kept_of table)) columns_are) ∙ shape_fits))) refl (looked_goes terms p s t x (statements.AddColumn name column) name AccessExclusive u at table found there locked looks)
 
-      pub alter_acts : (c : StoredColumn) (q : Parts) → c.maker ≡ x → c.column ≡ column → StaysBut p q → q.tables ≡ slice_set p.tables at (with_stored_column c table) → past_of q.journal ≡ Alter x table.number 0 [] ∷ Look x ∷ past_of p.journal → HasActed terms p q s t (replies.Tag tags.AlterTable 0) 0
+      pub alter_acts : (c : StoredColumn) (q : Parts) → c.maker ≡ x → c.column ≡ column → StaysBut p q → q.tables ≡ slice_set p.tables at (with_stored_column c table) → past_of q.journal ≡ Alter x table.number t.done [] ∷ Look x ∷ past_of p.journal → HasActed terms p q s t (replies.Tag tags.AlterTable 0) 0
       alter_acts c q maker column_is stays tables past_is =
           let w = looked_works terms p s t x (statements.AddColumn name column) name AccessExclusive u at table found there locked looks in
-          let stage : Stage terms s (past_of p.journal) (past_of q.journal) 0 = rw past_is (stage_on terms s (past_of p.journal) (Look x ∷ past_of p.journal) 0 0 (Alter x table.number 0 []) (looked_stage terms p s t x (statements.AddColumn name column) name AccessExclusive u at table found there locked looks) (step_alter x table.number 0 []) w.by alter_may w.settled refl
-          (acted_goes terms (Look x ∷ past_of p.journal) s (record t { wants = None }) x (statements.AddColumn name column) (Some (past_of p.journal)) w (Alter x table.number 0 []) w.by (λ d. refl) w.settled alter_may) (omega arith)) in
+          let stage : Stage terms s (past_of p.journal) (past_of q.journal) 0 = rw past_is (stage_on terms s (past_of p.journal) (Look x ∷ past_of p.journal) 0 0 (Alter x table.number t.done []) (looked_stage terms p s t x (statements.AddColumn name column) name AccessExclusive u at table found there locked looks) (step_alter x table.number t.done []) w.by alter_may w.settled refl
+          (acted_goes terms (Look x ∷ past_of p.journal) s (record t { wants = None }) x (statements.AddColumn name column) (Some (past_of p.journal)) w (Alter x table.number t.done []) w.by (λ d. refl) w.settled alter_may) (omega arith)) in
           let hand_so : hand (Look x ∷ past_of p.journal) s ≡ t.hand = ap (λ (d : Doing). d.hand) w.doing_is in
-          let in_hand_so : statement_of terms (hand (Look x ∷ past_of p.journal) (session_of (Look x ∷ past_of p.journal) x)) 0 ≡ Some (statements.AddColumn name column) = rw (w.by.session, hand_so) w.statement_is in
+          let in_hand_so : statement_of terms (hand (Look x ∷ past_of p.journal) (session_of (Look x ∷ past_of p.journal) x)) t.done ≡ Some (statements.AddColumn name column) = rw (w.by.session, hand_so) w.statement_is in
           record {
-            amid = amid_after terms p q s 0 u.kept stage stays (rw (tables, past_is) (store_after_alter terms (Look x ∷ past_of p.journal) p.tables x at table c 0 [] name column w.legal u.kept.sound.stored there in_hand_so maker column_is));
+            amid = amid_after terms p q s 0 u.kept stage stays (rw (tables, past_is) (store_after_alter terms (Look x ∷ past_of p.journal) p.tables x at table c t.done [] name column w.legal u.kept.sound.stored there in_hand_so maker column_is));
             clear = clear_after terms p q s 0 u.kept stage stays;
-            done = rw past_is (done_still terms _ s t _ (can_be_done terms (Look x ∷ past_of p.journal) s (record t { wants = None }) x (statements.AddColumn name column) (Some (past_of p.journal)) w (Alter x table.number 0 []) w.by (λ d. refl) (replies.Tag tags.AlterTable 0) refl refl));
+            done = rw past_is (done_still terms _ s t _ (can_be_done terms (Look x ∷ past_of p.journal) s (record t { wants = None }) x (statements.AddColumn name column) (Some (past_of p.journal)) w (Alter x table.number t.done []) w.by (λ d. refl) (acted_goes terms (Look x ∷ past_of p.journal) s (record t { wants = None }) x (statements.AddColumn name column) (Some (past_of p.journal)) w (Alter x table.number t.done []) w.by (λ d. refl) w.settled alter_may) (replies.Tag tags.AlterTable 0) refl refl));
             stage = stage;
             more = rw past_is (omega arith);
           }

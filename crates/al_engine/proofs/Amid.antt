@@ -107,7 +107,6 @@ module _ (terms : Terms) (p q : Parts) (s used : ℕ) (t : Session) (e : Entry) 
     queues = rw locks_same amid.sound.queues;
     weighed = rw noted (weight_same ∙ (amid.sound.weighed ∙ sym (still.weight_same old)));
     reserved = rw (sessions_same, locks_same) (omega (arith, room, amid.sound.reserved));
-    single = amid.sound.single;
   }
 
   pub amid_notes : IsAmid terms q s (used + 1)
@@ -152,7 +151,6 @@ module _ (terms : Terms) (p q : Parts) (s used : ℕ) (t : Session) (e : Entry) 
     queues = settled;
     weighed = rw noted (weight_same ∙ (amid.sound.weighed ∙ (sym light_so ∙ sym (weight_granted terms (xact_in p.sessions) (e ∷ before) q.locks.locks come))));
     reserved = rw (woke, woken_light q.locks.locks.granted p.sessions) (omega (arith, room, few, amid.sound.reserved));
-    single = amid.sound.single;
   }
 
   pub amid_ended : IsAmid terms q s (used + 1)
@@ -217,7 +215,6 @@ module _ (terms : Terms) (p q : Parts) (s used : ℕ) (t u : Session) (e : Entry
     queues = rw locks_same amid.sound.queues;
     weighed = rw noted (weight_same ∙ (amid.sound.weighed ∙ sym (still.weight_same last)));
     reserved = rw (set, locks_same) (omega (arith, light_set p.sessions s t u there, fits, room, amid.sound.reserved));
-    single = amid.sound.single;
   } where
     marks : (r x : ℕ) (v : Session) → v.xact ≡ Some x → ((s ≡ r) × (u ≡ v)) ⊎ (((s == r) ≡ false) × (slice_get p.sessions r ≡ Some v)) → x < length p.committed
     marks r x v is (inl e) = amid.sound.marked s x t there (its x (rw (← e.1) at is))

@@ -35,6 +35,7 @@ use Rattle.al_engine.specs.Sessions.{IsMirror, IsUnderway, IsOutlined}
 use Rattle.al_engine.proofs.SessionLemmas.{light_set, length_set, mirrors_set, marked_set}
 use Rattle.al_engine.proofs.Ties.{same_grantable, tie_granted, tie_queued, settled_tied}
 use Rattle.al_engine.proofs.Wanted.{free_asks, asks_its, blocked_by_lock, wants_locked, wants_queued}
+use Rattle.al_history.proofs.Requests.{waiting_lock}
 
 -- ---- who hasn't looked waits for no end of a transaction
 
@@ -114,15 +115,14 @@ mirrors_stay terms past after sessions s t seat mirrors others own r u there = b
   by_test false other = rw (others r other) (mirrors r u there)
 
 -- its statement is under way still
-still_underway : (terms : Terms) (d e : Doing) (block : ℕ) (looked : Bool) → e.dones ≡ d.dones → e.refused ≡ d.refused → e.acts ≡ d.acts → e.look ≡ d.look → IsUnderway terms d block looked → IsUnderway terms e block looked
-still_underway terms d e block looked dones_same refused_same acts_same look_same u = record {
-  none_done = dones_same ∙ u.none_done;
+still_underway : (terms : Terms) (d e : Doing) (block done left : ℕ) (looked : Bool) → e.dones ≡ d.dones → e.refused ≡ d.refused → e.acts ≡ d.acts → e.look ≡ d.look → IsUnderway terms d block done left looked → IsUnderway terms e block done left looked
+still_underway terms d e block done left looked dones_same refused_same acts_same look_same u = record {
+  dones_is = dones_same ∙ u.dones_is;
+  counted = u.counted;
   none_refused = refused_same ∙ u.none_refused;
   no_acts = acts_same ∙ u.no_acts;
   look_is = ap (λ (o : Option Past). is_some o) look_same ∙ u.look_is;
   only_creates = u.only_creates;
-  has_one = u.has_one;
-  has_no_more = u.has_no_more;
 }
 
 module _ (terms : Terms) (p : Parts) (s : ℕ) (t : Session) (x : ℕ) (c : Claim) (k : Lacks terms p s t x c) where
@@ -161,6 +161,7 @@ module _ (terms : Terms) (p : Parts) (s : ℕ) (t : Session) (x : ℕ) (c : Clai
     first_true = judged_so ∙ (ap (λ (n : ℕ). over_by terms.weight p.weight n) (sym weighs) ∙ sym is);
     settled = k.kept.clear.settled;
     follows = rw k.kept.clear.owed_is tt;
+    timely = rw k.kept.clear.owed_is k.goes;
   } where
     in_step_so : IsSome t.hand
     in_step_so = subst (λ (o : Option ℕ). IsSome o) outline.hand_is ((unblocked (is_some (hand (past_of p.journal) s)) (is_blocked (past_of p.journal) s) k.goes).0)
@@ -178,13 +179,13 @@ module _ (terms : Terms) (p : Parts) (s : ℕ) (t : Session) (x : ℕ) (c : Clai
   others_so : (e : Entry) → IsBy (past_of p.journal) s e → (r : ℕ) → (s == r) ≡ false → doing (e ∷ past_of p.journal) r ≡ doing (past_of p.journal) r
   others_so e its r other = others_stay terms (past_of p.journal) s r k.kept.sound.legal other e its
 
-  underway : (block : ℕ) → t.hand ≡ Some block → IsUnderway terms (doing (past_of p.journal) s) block t.looked
+  underway : (block : ℕ) → t.hand ≡ Some block → IsUnderway terms (doing (past_of p.journal) s) block t.done t.left t.looked
   underway = (k.kept.mirrors s t k.seat).underway
 
   -- it got the lock
   module _ (q : Parts) (a : AskedSo q) (sessions : q.sessions ≡ p.sessions) (past_is : past_of q.journal ≡ Lock x c.table c.mode ∷ past_of p.journal) (can : is_grantable p.locks.locks (grant_of c) ≡ true) where
     lock_may : MayCome terms (past_of p.journal) (Lock x c.table c.mode)
-    lock_may = comes_lock terms (past_of p.journal) s (doing (past_of p.journal) s) k.kept.sound.legal refl k.kept.clear.settled x by c k.own (sym can_is ∙ can) unasked lacks_so k.before_look (judged_so ∙ a.fits) k.kept.clear.owed_is where
+    lock_may = comes_lock terms (past_of p.journal) s (doing (past_of p.journal) s) k.kept.sound.legal refl k.kept.clear.settled x by c k.own (sym can_is ∙ can) unasked lacks_so k.before_look (judged_so ∙ a.fits) k.kept.clear.owed_is k.goes where
       unasked : is_waiting (past_of p.journal) c ≡ false
       unasked = waiting_none (past_of p.journal) c (rw k.own none_asked)
 
@@ -197,7 +198,7 @@ module _ (terms : Terms) (p : Parts) (s : ℕ) (t : Session) (x : ℕ) (c : Clai
     got_mirror : IsMirror terms (doing (Lock x c.table c.mode ∷ past_of p.journal) s) t
     got_mirror = rw (own_moves (past_of p.journal) s (Lock x c.table c.mode) by) (record {
       outline = record { hand_is = outline.hand_is; xact_is = outline.xact_is; block_is = outline.block_is; closed_is = outline.closed_is; wants_is = sym free_wants ∙ outline.wants_is };
-      underway = λ block busy. still_underway terms (doing (past_of p.journal) s) (moved (past_of p.journal) (Lock x c.table c.mode) (doing (past_of p.journal) s)) block t.looked refl refl refl refl (underway block busy);
+      underway = λ block busy. still_underway terms (doing (past_of p.journal) s) (moved (past_of p.journal) (Lock x c.table c.mode) (doing (past_of p.journal) s)) block t.done t.left t.looked refl refl refl refl (underway block busy);
     })
 
     got_waiting : q.locks.locks.waiting ≡ p.locks.locks.waiting
@@ -223,9 +224,8 @@ module _ (terms : Terms) (p : Parts) (s : ℕ) (t : Session) (x : ℕ) (c : Clai
         queues = a.settled k.kept.sound.queues;
         weighed = rw past_is (a.weighs ∙ got_weighs);
         reserved = rw (sessions, got_waiting) (omega (arith, k.kept.sound.reserved, a.room));
-        single = k.kept.sound.single;
       };
-      wants_so = rw past_is (wants_locked (past_of p.journal) x c.table c.mode (λ d there other. k.kept.wants_so d there));
+      wants_so = rw past_is (wants_locked (past_of p.journal) x c.table c.mode (waiting_lock terms (past_of p.journal) x c.table c.mode (lock_may, k.kept.sound.legal)) (λ d there other. k.kept.wants_so d there));
       mirrors = λ r u there. rw past_is (mirrors_stay terms (past_of p.journal) (Lock x c.table c.mode ∷ past_of p.journal) p.sessions s t k.seat k.kept.mirrors (others_so (Lock x c.table c.mode) by) got_mirror r u (rw sessions at there));
       clear = rw past_is (record { owed_is = k.kept.clear.owed_is; settled = got_settled });
     }
@@ -256,7 +256,7 @@ module _ (terms : Terms) (p : Parts) (s : ℕ) (t : Session) (x : ℕ) (c : Clai
     queued_mirror : IsMirror terms (doing (Wait x (wants.Table c.table c.mode) ∷ past_of p.journal) s) (record t { wants = Some (wants.Table c.table c.mode) })
     queued_mirror = rw (own_moves (past_of p.journal) s (Wait x (wants.Table c.table c.mode)) by) (record {
       outline = record { hand_is = outline.hand_is; xact_is = outline.xact_is; block_is = outline.block_is; closed_is = outline.closed_is; wants_is = refl };
-      underway = λ block busy. still_underway terms (doing (past_of p.journal) s) (moved (past_of p.journal) (Wait x (wants.Table c.table c.mode)) (doing (past_of p.journal) s)) block t.looked refl refl refl refl (underway block busy);
+      underway = λ block busy. still_underway terms (doing (past_of p.journal) s) (moved (past_of p.journal) (Wait x (wants.Table c.table c.mode)) (doing (past_of p.journal) s)) block t.done t.left t.looked refl refl refl refl (underway block busy);
     })
 
     queued_waiting : length q.locks.locks.waiting ≡ length p.locks.locks.waiting + 1
@@ -279,7 +279,6 @@ module _ (terms : Terms) (p : Parts) (s : ℕ) (t : Session) (x : ℕ) (c : Clai
         queues = a.settled k.kept.sound.queues;
         weighed = rw past_is (a.weighs ∙ queued_weighs);
         reserved = rw sessions (omega (arith, k.kept.sound.reserved, a.room, queued_waiting, light_set p.sessions s t (record t { wants = Some (wants.Table c.table c.mode) }) k.seat));
-        single = k.kept.sound.single;
       };
       wants_so = rw past_is (wants_queued (past_of p.journal) x c (by.session ∙ sym k.own) (rw k.own none_asked) (λ d there other. k.kept.wants_so d there));
       mirrors = λ r u there. rw past_is (mirrors_set terms (past_of p.journal) (Wait x (wants.Table c.table c.mode) ∷ past_of p.journal) p.sessions s (record t { wants = Some (wants.Table c.table c.mode) }) (λ v w other is. k.kept.mirrors v w is) (others_so (Wait x (wants.Table c.table c.mode)) by) queued_mirror r u (rw sessions at there));

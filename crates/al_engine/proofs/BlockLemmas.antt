@@ -33,7 +33,7 @@ use Rattle.al_engine.specs.declared.sessions.Block.TheVariants as blocks
 use Rattle.al_engine.specs.LockTie.{locked_by, is_granted}
 use Rattle.al_engine.specs.Sessions.{xact_in, woken, IsMirror, state_of, light_of, light}
 use Rattle.al_engine.specs.Kept.{Parts, IsAmid, IsKept, CanBeRefused}
-use Rattle.al_engine.specs.Ended.{IsLast, stopped, IsOver, end_reply, IsEnded}
+use Rattle.al_engine.specs.Ended.{IsLast, stopped, onward, IsOver, end_reply, IsEnded}
 use Rattle.al_engine.proofs.Amid.{amid_begins, amid_notes, commit_comes, abort_comes, amid_commits, amid_aborts, amid_stops, still_done, still_end}
 use Rattle.al_engine.proofs.FailedBlocks.{open_unfailed}
 use Rattle.al_engine.proofs.Grants.{HaveCome, settled_then}
@@ -43,54 +43,7 @@ use Rattle.al_engine.proofs.SessionLemmas.{light_at}
 use Rattle.al_engine.proofs.Tails.{tail_by_done, tail_granted}
 use Rattle.al_engine.proofs.TurnLemmas.{IsGoing, going}
 use Rattle.al_engine.proofs.Woken.{calmed, woken_get}
-
--- ---- a statement is done, and with it its step
-
-module _ (terms : Terms) (m : Parts) (s used : ℕ) (t seat : Session) (old : Past) (xact : Option ℕ) (reply : Reply) (over : IsOver terms m s used t seat old xact reply) where
-  abbrev mid : Past
-  mid = past_of m.journal
-
-  legal_done : Legal terms (Done s reply ∷ mid)
-  legal_done = (over.comes, over.amid.sound.legal)
-
-  none_in_hand : in_hand terms (Done s reply ∷ mid) s ≡ None
-  none_in_hand = rw (over.is_last.busy, if_same s, over.is_last.none_done) over.is_last.last
-
-  none_implicit : implicit_of (Done s reply ∷ mid) s ≡ None
-  none_implicit = rw (if_same s, over.is_last.block_is, over.is_last.xact_is) over.is_last.none_left
-
-  owes_end : owed terms (Done s reply ∷ mid) ≡ Some (End s)
-  owes_end = rw (none_in_hand, none_implicit) refl
-
-  end_comes : MayCome terms (Done s reply ∷ mid) (End s)
-  end_comes = comes terms (Done s reply ∷ mid) legal_done over.settled (End s) (record { in_step = rw over.is_last.busy refl; over = inl none_in_hand; none_implicit = none_implicit }) (rw owes_end refl)
-
-  -- there is room for both
-  pub over_room : 1 < m.journal.room
-  over_room =
-      let reserved : light m.sessions + length m.locks.locks.waiting ≤ m.journal.room + used = over.amid.sound.reserved in
-      omega (arith, reserved, light_at m.sessions s t over.there, over.fits seat.block)
-
-  pub over_went : (new : Past) → new ≡ End s ∷ Done s reply ∷ mid → Went terms s old new false (driver old) (IsLeast old s)
-  over_went new noted = rw noted (tail_ends terms s old (Done s reply ∷ mid) false (driver old) (IsLeast old s) over.tail end_comes (rw owes_end tt))
-
-  own_stops : (block : Block) → state_of block ≡ block_after reply (state_of seat.block) → IsMirror terms (doing (End s ∷ Done s reply ∷ mid) s) (stopped seat xact block)
-  own_stops block is = record {
-    outline = record {
-      hand_is = rw (if_same s) refl;
-      xact_is = over.is_last.xact_is;
-      block_is = rw (if_same s, over.is_last.block_is) (sym is);
-      closed_is = over.is_last.closed_is;
-      wants_is = rw (if_same s) refl;
-    };
-    underway = λ b busy. absurd cc;
-  }
-
-  module _ (m1 q : Parts) (block : Block) (is : state_of block ≡ block_after reply (state_of seat.block)) (noted : past_of m1.journal ≡ Done s reply ∷ mid) (room : m1.journal.room + 1 ≡ m.journal.room) (sessions : m1.sessions ≡ m.sessions) (tables : m1.tables ≡ m.tables) (locks : m1.locks ≡ m.locks) (committed : m1.committed ≡ m.committed) (weight_is : m1.weight ≡ m.weight) where
-    pub over_kept : past_of q.journal ≡ End s ∷ past_of m1.journal → q.journal.room + 1 ≡ m1.journal.room → q.sessions ≡ slice_set m1.sessions s (stopped seat xact block) → q.tables ≡ m1.tables → q.locks ≡ m1.locks → q.committed ≡ m1.committed → q.weight ≡ m1.weight → IsKept terms q
-    over_kept noted_end room_end set tables_end locks_end committed_end weight_end =
-        let amid : IsAmid terms m1 s (used + 1) = amid_notes terms m m1 s used t (Done s reply) over.amid over.there (still_done s reply) refl over.comes noted room sessions tables locks committed weight_is in
-        amid_stops terms m1 q s (used + 1) t (stopped seat xact block) (End s) amid (rw sessions over.there) (still_end s) refl (rw noted end_comes) (rw noted over.unasked) (rw noted over.settled) refl (rw noted (own_stops block is)) over.its (omega (arith, over.fits block)) noted_end room_end set tables_end locks_end committed_end weight_end
+use Rattle.al_history.proofs.Implicit.{unfaulted}
 
 -- ---- BEGIN
 
@@ -109,24 +62,32 @@ light_stops seat block busy some b = by_case seat.xact refl some where
   by_case None is some = absurd cc
   by_case (Some x) is some = rw (is, busy) (omega arith)
 
-pub begin_over : (terms : Terms) (p : Parts) (s : ℕ) (seat : Session) → IsKept terms p → slice_get p.sessions s ≡ Some seat → can_go_on (past_of p.journal) s ≡ true → IsSome seat.xact → statement_of terms seat.hand 0 ≡ Some statements.Begin → IsOver terms p s 0 seat seat (past_of p.journal) seat.xact (replies.Tag tags.Begin 0)
+light_goes : (seat : Session) (block : ℕ) → seat.hand ≡ Some block → IsSome seat.xact → (b : Block) → 1 < seat.left → light_of (onward seat seat.xact b) + 0 + 1 ≤ light_of seat
+light_goes seat block busy some b more = by_case seat.xact refl some where
+  by_case : (o : Option ℕ) → seat.xact ≡ o → IsSome o → light_of (onward seat seat.xact b) + 0 + 1 ≤ light_of seat
+  by_case None is some = absurd cc
+  by_case (Some x) is some = rw (is, busy) (omega arith)
+
+pub begin_over : (terms : Terms) (p : Parts) (s : ℕ) (seat : Session) → IsKept terms p → slice_get p.sessions s ≡ Some seat → can_go_on (past_of p.journal) s ≡ true → IsSome seat.xact → statement_of terms seat.hand seat.done ≡ Some statements.Begin → IsOver terms p s 0 seat seat (past_of p.journal) seat.xact (replies.Tag tags.Begin 0)
 begin_over terms p s seat kept there can some statement =
     let old : Past = past_of p.journal in
     let g : IsGoing terms old s seat = going terms p s seat kept there can in
     let reply : Reply = replies.Tag tags.Begin 0 in
-    let done_comes : MayCome terms old (Done s reply) = comes_done terms old s (doing old s) kept.sound.legal refl kept.clear.settled reply (rw (g.outline.hand_is, g.under.none_done, statement, g.under.no_acts, g.outline.xact_is) (begin_answers seat.xact (block_state old s) some)) (rw kept.clear.owed_is tt) in
+    let done_comes : MayCome terms old (Done s reply) = comes_done terms old s (doing old s) kept.sound.legal refl kept.clear.settled reply (rw (g.outline.hand_is, g.under.dones_is, statement, g.under.no_acts, g.outline.xact_is) (begin_answers seat.xact (block_state old s) some)) (rw kept.clear.owed_is tt) (rw kept.clear.owed_is can) in
     record {
       amid = amid_begins terms p s kept;
       there = there;
       is_last = record {
         block = g.block;
         busy = g.outline.hand_is ∙ g.busy;
-        none_done = g.under.none_done;
-        last = g.under.has_no_more;
+        hand_is = g.busy;
+        dones_is = g.under.dones_is;
+        counted = g.under.counted;
+        unrefused = g.under.none_refused;
         xact_is = g.outline.xact_is;
         block_is = g.outline.block_is;
         closed_is = g.outline.closed_is;
-        none_left = opened_keeps (state_of seat.block) seat.xact;
+        none_left = λ last. opened_keeps (state_of seat.block) seat.xact;
       };
       settled = kept.clear.settled;
       unasked = g.free;
@@ -134,6 +95,7 @@ begin_over terms p s seat kept there can some statement =
       tail = tail_by_done terms s old reply kept.sound.legal kept.clear.owed_is done_comes;
       its = λ x is. is;
       fits = light_stops seat g.block g.busy some;
+      fits_on = light_goes seat g.block g.busy some;
     }
 
 -- ---- COMMIT and ROLLBACK
@@ -148,12 +110,12 @@ end_answers true state = refl
 end_answers false state = refl
 
 -- no transaction is open
-pub none_ended : (terms : Terms) (p : Parts) (s : ℕ) (seat : Session) (commits : Bool) → IsKept terms p → slice_get p.sessions s ≡ Some seat → can_go_on (past_of p.journal) s ≡ true → statement_of terms seat.hand 0 ≡ Some (cond commits statements.Commit statements.Rollback) → seat.xact ≡ None → IsEnded terms p s seat (past_of p.journal) commits
+pub none_ended : (terms : Terms) (p : Parts) (s : ℕ) (seat : Session) (commits : Bool) → IsKept terms p → slice_get p.sessions s ≡ Some seat → can_go_on (past_of p.journal) s ≡ true → statement_of terms seat.hand seat.done ≡ Some (cond commits statements.Commit statements.Rollback) → seat.xact ≡ None → IsEnded terms p s seat (past_of p.journal) commits
 none_ended terms p s seat commits kept there can statement none =
     let old : Past = past_of p.journal in
     let g : IsGoing terms old s seat = going terms p s seat kept there can in
     let reply : Reply = end_reply seat commits in
-    let done_comes : MayCome terms old (Done s reply) = comes_done terms old s (doing old s) kept.sound.legal refl kept.clear.settled reply (rw (g.outline.hand_is, g.under.none_done, statement, g.under.no_acts, g.outline.xact_is, none, g.outline.block_is) (end_answers commits (state_of seat.block))) (rw kept.clear.owed_is tt) in
+    let done_comes : MayCome terms old (Done s reply) = comes_done terms old s (doing old s) kept.sound.legal refl kept.clear.settled reply (rw (g.outline.hand_is, g.under.dones_is, statement, g.under.no_acts, g.outline.xact_is, none, g.outline.block_is) (end_answers commits (state_of seat.block))) (rw kept.clear.owed_is tt) (rw kept.clear.owed_is can) in
     record {
       used = 0;
       t = seat;
@@ -163,12 +125,14 @@ none_ended terms p s seat commits kept there can statement none =
         is_last = record {
           block = g.block;
           busy = g.outline.hand_is ∙ g.busy;
-          none_done = g.under.none_done;
-          last = g.under.has_no_more;
+          hand_is = g.busy;
+          dones_is = g.under.dones_is;
+          counted = g.under.counted;
+          unrefused = g.under.none_refused;
           xact_is = g.outline.xact_is ∙ none;
           block_is = g.outline.block_is;
           closed_is = g.outline.closed_is;
-          none_left = no_implicit _;
+          none_left = λ last. no_implicit _;
         };
         settled = kept.clear.settled;
         unasked = g.free;
@@ -176,6 +140,7 @@ none_ended terms p s seat commits kept there can statement none =
         tail = tail_by_done terms s old reply kept.sound.legal kept.clear.owed_is done_comes;
         its = λ x is. absurd cc;
         fits = λ b. rw (g.busy, none) (omega arith);
+        fits_on = λ b more. rw (g.busy, none) (omega arith);
       };
     }
 
@@ -185,7 +150,7 @@ unfailed_tag OpenBlock unfailed = refl
 unfailed_tag (FailedBlock r) unfailed = absurd (unfailed r refl)
 
 -- the open transaction ends by this entry, and locks are granted
-module _ (terms : Terms) (p m : Parts) (s x : ℕ) (seat : Session) (commits : Bool) (kept : IsKept terms p) (there : slice_get p.sessions s ≡ Some seat) (can : can_go_on (past_of p.journal) s ≡ true) (statement : statement_of terms seat.hand 0 ≡ Some (cond commits statements.Commit statements.Rollback)) (own : seat.xact ≡ Some x) where
+module _ (terms : Terms) (p m : Parts) (s x : ℕ) (seat : Session) (commits : Bool) (kept : IsKept terms p) (there : slice_get p.sessions s ≡ Some seat) (can : can_go_on (past_of p.journal) s ≡ true) (statement : statement_of terms seat.hand seat.done ≡ Some (cond commits statements.Commit statements.Rollback)) (own : seat.xact ≡ Some x) where
   abbrev old : Past
   old = past_of p.journal
 
@@ -217,7 +182,7 @@ module _ (terms : Terms) (p m : Parts) (s x : ℕ) (seat : Session) (commits : B
     done_then : MayCome terms then (Done s (end_reply seat commits))
     done_then =
         let g : IsGoing terms old s seat = going_so in
-        comes_done terms then s (calm (is_granted s granted) (record (doing old s) { xact = None; wants = None })) come.legal doing_then settled_so (end_reply seat commits) (rw (g.outline.hand_is, g.under.none_done, statement, g.under.no_acts, g.outline.block_is) (end_answers commits (state_of seat.block))) (rw owes_then refl)
+        comes_done terms then s (calm (is_granted s granted) (record (doing old s) { xact = None; wants = None })) come.legal doing_then settled_so (end_reply seat commits) (rw (g.outline.hand_is, g.under.dones_is, statement, g.under.no_acts, g.outline.block_is) (end_answers commits (state_of seat.block))) (rw owes_then refl) (rw owes_then refl)
 
     last_then : IsLast terms then s seat None (end_reply seat commits)
     last_then =
@@ -225,12 +190,14 @@ module _ (terms : Terms) (p m : Parts) (s x : ℕ) (seat : Session) (commits : B
         record {
           block = g.block;
           busy = ap (λ (d : Doing). d.hand) doing_then ∙ (g.outline.hand_is ∙ g.busy);
-          none_done = ap (λ (d : Doing). d.dones) doing_then ∙ g.under.none_done;
-          last = g.under.has_no_more;
+          hand_is = g.busy;
+          dones_is = ap (λ (d : Doing). d.dones) doing_then ∙ g.under.dones_is;
+          counted = g.under.counted;
+          unrefused = ap (λ (d : Doing). d.refused) doing_then ∙ g.under.none_refused;
           xact_is = ap (λ (d : Doing). d.xact) doing_then;
           block_is = ap (λ (d : Doing). d.block) doing_then ∙ g.outline.block_is;
           closed_is = ap (λ (d : Doing). d.closed) doing_then ∙ g.outline.closed_is;
-          none_left = no_implicit _;
+          none_left = λ last. no_implicit _;
         }
 
     pub xact_ended : IsEnded terms m s seat old commits
@@ -249,6 +216,7 @@ module _ (terms : Terms) (p m : Parts) (s x : ℕ) (seat : Session) (commits : B
             tail = rw noted (tail_on terms s old then false (driver old) (IsLeast old s) (Done s (end_reply seat commits)) (tail_granted terms s old (e ∷ old) false (driver old) (IsLeast old s) (xact_in p.sessions) m.locks.locks come e_tail) (tail_done s (end_reply seat commits)) (λ past r. refl) (inl refl) done_then (rw owes_then tt));
             its = λ y is. absurd cc;
             fits = λ b. rw (g.busy, own) (omega arith);
+            fits_on = λ b more. rw (g.busy, own) (omega arith);
           };
         }
 
@@ -266,11 +234,11 @@ module _ (terms : Terms) (p m : Parts) (s x : ℕ) (seat : Session) (commits : B
         let g : IsGoing terms old s seat = going_so in
         let by : IsXact old s x = is_open in
         let amid : IsAmid terms p s 0 = amid_begins terms p s kept in
-        let in_hand_is : statement_of terms seat.hand 0 ≡ Some statements.Commit = rw commits_so at statement in
-        let comes_so : MayCome terms old (Commit x) = comes_commit terms old s (doing old s) kept.sound.legal refl kept.clear.settled x by g.block (g.outline.hand_is ∙ g.busy) g.under.none_refused (inr (rw (g.outline.hand_is, g.under.none_done) in_hand_is)) (rw kept.clear.owed_is tt) in
+        let in_hand_is : statement_of terms seat.hand seat.done ≡ Some statements.Commit = rw commits_so at statement in
+        let comes_so : MayCome terms old (Commit x) = comes_commit terms old s (doing old s) kept.sound.legal refl kept.clear.settled x by g.block (g.outline.hand_is ∙ g.busy) g.under.none_refused (inr (rw (g.outline.hand_is, g.under.dones_is) in_hand_is)) (rw kept.clear.owed_is tt) (rw kept.clear.owed_is can) in
         let begins : Tail terms s old (Commit x ∷ old) false (driver old) (IsLeast old s) = tail_begins terms s old old 0 (Commit x) (stage_begins terms s old kept.sound.legal kept.clear.settled kept.clear.owed_is) (omega arith) (omega arith) (tail_commit x) (λ past r. refl) by comes_so (λ least. rw (kept.clear.owed_is, by.session) least) in
         let tag : commit_tag (state_of seat.block) ≡ tags.Commit = unfailed_tag (state_of seat.block) (λ r failed. open_unfailed terms old s x r kept.sound.legal kept.clear.owed_is by.open_xact (g.outline.block_is ∙ failed)) in
-        let owes : owed terms (Commit x ∷ old) ≡ Some (Done s (end_reply seat commits)) = rw (by.session, g.outline.hand_is, g.under.none_done, in_hand_is, commits_so, tag) refl in
+        let owes : owed terms (Commit x ∷ old) ≡ Some (Done s (end_reply seat commits)) = rw (by.session, g.outline.hand_is, g.under.dones_is, in_hand_is, commits_so, tag) refl in
         xact_ended (Commit x) by refl begins owes (commit_comes terms p m s 0 x seat amid there by hands comes_so) (amid_commits terms p m s 0 x seat amid there by hands room woke tables count_same settled weight_same own comes_so noted marked) noted woke settled
 
     pub abort_ended : commits ≡ false → past_of m.journal ≡ locked_by (xact_in p.sessions) granted (Abort x ∷ old) → m.committed ≡ p.committed → IsEnded terms m s seat old commits
@@ -279,8 +247,8 @@ module _ (terms : Terms) (p m : Parts) (s x : ℕ) (seat : Session) (commits : B
         let by : IsXact old s x = is_open in
         let amid : IsAmid terms p s 0 = amid_begins terms p s kept in
         let busy : hand old s ≡ Some g.block = g.outline.hand_is ∙ g.busy in
-        let in_hand_is : statement_of terms seat.hand 0 ≡ Some statements.Rollback = rw aborts_so at statement in
-        let comes_so : MayCome terms old (Abort x) = comes_abort terms old s (doing old s) kept.sound.legal refl kept.clear.settled x by (inr (rw (g.outline.hand_is, g.under.none_done) in_hand_is)) (rw kept.clear.owed_is tt) in
+        let in_hand_is : statement_of terms seat.hand seat.done ≡ Some statements.Rollback = rw aborts_so at statement in
+        let comes_so : MayCome terms old (Abort x) = comes_abort terms old s (doing old s) kept.sound.legal refl kept.clear.settled x by (inr (rw (g.outline.hand_is, g.under.dones_is) in_hand_is)) (rw kept.clear.owed_is tt) (rw (busy, kept.clear.owed_is) can) in
         let begins : Tail terms s old (Abort x ∷ old) false (driver old) (IsLeast old s) = tail_begins terms s old old 0 (Abort x) (stage_begins terms s old kept.sound.legal kept.clear.settled kept.clear.owed_is) (omega arith) (omega arith) (tail_abort x) (λ past r. refl) by comes_so (λ least. rw (by.session, busy, kept.clear.owed_is) least) in
         let owes : owed terms (Abort x ∷ old) ≡ Some (Done s (end_reply seat commits)) = rw (by.session, busy, g.under.none_refused, aborts_so) refl in
         xact_ended (Abort x) by refl begins owes (abort_comes terms p m s 0 x seat amid there by hands comes_so) (amid_aborts terms p m s 0 x seat amid there by hands room woke tables count_same settled weight_same comes_so noted marked) noted woke settled
@@ -301,7 +269,7 @@ failed_cause statements.Commit refuse goes_on = absurd cc
 failed_cause statements.Rollback refuse goes_on = absurd cc
 failed_cause statement refuse goes_on = refl
 
-pub failed_refused : (terms : Terms) (p : Parts) (s place : ℕ) (seat : Session) (statement : Statement) → IsKept terms p → slice_get p.sessions s ≡ Some seat → can_go_on (past_of p.journal) s ≡ true → statement_of terms seat.hand 0 ≡ Some statement → starts NoBlock statement ≡ true → seat.block ≡ blocks.Failed place → CanBeRefused terms (past_of p.journal) s seat (causes.BlockFailed place)
+pub failed_refused : (terms : Terms) (p : Parts) (s place : ℕ) (seat : Session) (statement : Statement) → IsKept terms p → slice_get p.sessions s ≡ Some seat → can_go_on (past_of p.journal) s ≡ true → statement_of terms seat.hand seat.done ≡ Some statement → starts NoBlock statement ≡ true → seat.block ≡ blocks.Failed place → CanBeRefused terms (past_of p.journal) s seat (causes.BlockFailed place)
 failed_refused terms p s place seat statement kept there can in_hand_is goes_on failed =
     let old : Past = past_of p.journal in
     let g : IsGoing terms old s seat = going terms p s seat kept there can in
@@ -311,7 +279,8 @@ failed_refused terms p s place seat statement kept there can in_hand_is goes_on 
       block_is = g.outline.block_is;
       closed_is = g.outline.closed_is;
       in_step = rw g.busy refl;
-      first_true = cause_free terms old s (doing old s) kept.sound.legal refl kept.clear.settled kept.clear.owed_is ∙ rw (g.outline.hand_is, g.under.none_done, in_hand_is, g.outline.block_is, failed, failed_cause statement place goes_on) refl;
+      first_true = cause_free terms old s (doing old s) kept.sound.legal refl kept.clear.settled kept.clear.owed_is ∙ rw (g.outline.hand_is, unfaulted terms seat.hand seat.done statement in_hand_is, g.under.dones_is, in_hand_is, g.outline.block_is, failed, failed_cause statement place goes_on) refl;
       settled = kept.clear.settled;
       follows = rw kept.clear.owed_is tt;
+      timely = rw kept.clear.owed_is can;
     }

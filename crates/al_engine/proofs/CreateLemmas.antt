@@ -1,10 +1,10 @@
 -- CREATE TABLE: it looks, unless it has, and then it is refused, or waits for the end of another's transaction, or makes its table.
 use Rattle.std.proofs.Common.{◌≡◌, ℕ, suc, zero, ◌+◌, ◌≤◌, List, [], ◌∷◌, ◌++◌, length, get_or, refl, sym, ap, cond, true, false, Bool, Option, Some, None, arith, ◌∙◌, slice_get, slice_set}
-use Rattle.std.specs.Prelude.{is_some, nat_le, reverse}
+use Rattle.std.specs.Prelude.{is_some, nat_le, reverse, nat_lt}
 use Rattle.std.proofs.lemmas.Bool.{leb-true}
 use Rattle.al_history.specs.declared.entry.Cause.{Cause}
 use Rattle.al_history.specs.declared.entry.Cause.TheVariants as causes
-use Rattle.al_history.specs.declared.entry.Entry.TheVariants.{Look, Make, Wait}
+use Rattle.al_history.specs.declared.entry.Entry.TheVariants.{Look, Make, Wait, Add, Alter}
 use Rattle.al_history.specs.declared.entry.Entry.{Entry}
 use Rattle.al_history.specs.declared.entry.RunLimit.TheVariants as limits
 use Rattle.al_history.specs.declared.entry.Want.{Want}
@@ -16,13 +16,13 @@ use Rattle.al_history.specs.declared.statement.Statement.TheVariants as statemen
 use Rattle.al_history.specs.declared.statement.Terms.{Terms}
 use Rattle.al_history.specs.Kept.{Kept as KeptJournal}
 use Rattle.al_history.specs.Past.{Past, past_of}
-use Rattle.al_history.specs.Cause.{create_cause, twice_column, is_among as is_among_names, first_of, limit_cause, weight_before, weight_after, cause_at}
+use Rattle.al_history.specs.Cause.{create_cause, columns_cause, tables_cause, tables_made, is_among as is_among_names, first_of, limit_cause, weight_before, weight_after, cause_at}
 use Rattle.al_history.specs.Change.{shape_of}
 use Rattle.al_history.specs.Database.{Database, named}
 use Rattle.al_history.specs.Hand.{xact_of, statement_of}
 use Rattle.al_history.specs.Locks.{Claim, held, waiting}
 use Rattle.al_history.specs.Need.{lacking, name_taker}
-use Rattle.al_history.specs.Store.{KeptTable, store, slots_of}
+use Rattle.al_history.specs.Store.{KeptTable, store, slots_of, with_kept}
 use Rattle.al_history.specs.View.{latest}
 use Rattle.al_history.specs.Waits.{can_go_on}
 use Rattle.al_history.specs.Weight.{weight}
@@ -34,7 +34,7 @@ use Rattle.al_history.proofs.Turns.{Stage, Went, stage_begins, stage_on, step_ma
 use Rattle.al_history.proofs.Weights.{weighs}
 use Rattle.al_history.proofs.Xacts.{turn}
 use Rattle.al_engine.specs.declared.sessions.Session.{Session}
-use Rattle.al_engine.specs.Creating.{taker_in, seen_in, look_past}
+use Rattle.al_engine.specs.Creating.{taker_in, seen_in, look_past, limit_in}
 use Rattle.al_engine.specs.Kept.{Parts, IsKept, IsAmid, CanBeDone, CanBeRefused, used_by, over_by}
 use Rattle.al_engine.specs.LockTie.{OthersWant, WantsSo, asks}
 use Rattle.al_engine.specs.Sessions.{IsMirror, IsUnderway, xacts_in}
@@ -48,22 +48,26 @@ use Rattle.al_engine.proofs.StatementLemmas.{at_work, Works, works, works_first,
 use Rattle.al_engine.proofs.StoredLemmas.{taker_is, among_open}
 use Rattle.al_engine.proofs.UseLemmas.{HasActed, HasFailed}
 use Rattle.al_engine.proofs.Wanted.{others_wait_on, wants_all}
+use Rattle.al_history.specs.Limits.{most_tables, most_columns}
+use Rattle.std.proofs.lemmas.List.{length-append}
+use Rattle.al_engine.specs.declared.stored.StoredTable.{StoredTable}
 
 -- ---- why it is refused
 
-twice_uncut : (before names : List (List ℕ)) (cause : Cause) → Some cause ≡ twice_column before names → used_by cause ≡ 0
-twice_uncut before [] cause is = absurd cc
-twice_uncut before (name ∷ names) cause is = by_test (is_among_names before name) is (λ h. twice_uncut (before ++ name ∷ []) names cause h) where
-  by_test : (b : Bool) → Some cause ≡ cond b (Some (causes.TwiceColumn name)) (twice_column (before ++ name ∷ []) names) → (Some cause ≡ twice_column (before ++ name ∷ []) names → used_by cause ≡ 0) → used_by cause ≡ 0
-  by_test true is more = let one : cause ≡ causes.TwiceColumn name = cc in rw one refl
-  by_test false is more = more is
+columns_uncut : (before names : List (List ℕ)) (cause : Cause) → Some cause ≡ columns_cause before names → used_by cause ≡ 0
+columns_uncut before [] cause is = absurd cc
+columns_uncut before (name ∷ names) cause is = by_test (is_among_names before name) (nat_lt (length before) most_columns) is (λ h. columns_uncut (before ++ name ∷ []) names cause h) where
+  by_test : (a b : Bool) → Some cause ≡ cond a (Some (causes.TwiceColumn name)) (cond b (columns_cause (before ++ name ∷ []) names) (Some (causes.Limit limits.Columns (length before + 1)))) → (Some cause ≡ columns_cause (before ++ name ∷ []) names → used_by cause ≡ 0) → used_by cause ≡ 0
+  by_test true b is more = let one : cause ≡ causes.TwiceColumn name = cc in rw one refl
+  by_test false true is more = more is
+  by_test false false is more = let one : cause ≡ causes.Limit limits.Columns (length before + 1) = cc in rw one refl
 
 create_uncut : (name : List ℕ) (columns : List (List ℕ)) (taker : Option ℕ) (db : Database) (cause : Cause) → Some cause ≡ create_cause name columns taker db → used_by cause ≡ 0
-create_uncut name columns (Some taker) db cause is = twice_uncut [] columns cause is
+create_uncut name columns (Some taker) db cause is = columns_uncut [] columns cause is
 create_uncut name columns None db cause is = by_test (is_some (named db name)) is where
-  by_test : (b : Bool) → Some cause ≡ cond b (Some (causes.TwiceTable name)) (twice_column [] columns) → used_by cause ≡ 0
+  by_test : (b : Bool) → Some cause ≡ cond b (Some (causes.TwiceTable name)) (columns_cause [] columns) → used_by cause ≡ 0
   by_test true is = let one : cause ≡ causes.TwiceTable name = cc in rw one refl
-  by_test false is = twice_uncut [] columns cause is
+  by_test false is = columns_uncut [] columns cause is
 
 none_second : (found limit : Option Cause) → first_of found limit ≡ None → limit ≡ None
 none_second None limit none = none
@@ -75,19 +79,45 @@ over_none limit so_far next none = by_test (nat_le (so_far + next) limit) refl n
   by_test true is none = leb-true (so_far + next) limit is
   by_test false is none = absurd cc
 
+-- as many tables are kept as were made
+with_counted : (number : ℕ) (f : KeptTable → KeptTable) (tables : List KeptTable) → length (with_kept number f tables) ≡ length tables
+with_counted number f [] = refl
+with_counted number f (t ∷ tables) = ap suc (with_counted number f tables)
+
+store_counted : (terms : Terms) (past : Past) → length (store terms past) ≡ tables_made past
+store_counted terms [] = refl
+store_counted terms (Make x table name shape ∷ past) = omega (arith, length-append (store terms past) (record { number = table; maker = x; name = name; slots = slots_of x shape; rows = [] } ∷ []), store_counted terms past)
+store_counted terms (Add x table row ∷ past) = with_counted table _ (store terms past) ∙ store_counted terms past
+store_counted terms (Alter x table statement rewritten ∷ past) = with_counted table _ (store terms past) ∙ store_counted terms past
+store_counted terms (e ∷ past) = store_counted terms past
+
+kept_length : (tables : List StoredTable) → length (all_kept tables) ≡ length tables
+kept_length [] = refl
+kept_length (t ∷ tables) = ap suc (kept_length tables)
+
 -- why it is refused once it has looked, by what is kept
 abbrev pub refusal_in : Terms → Parts → Bool → ℕ → List ℕ → List (List ℕ) → Option Cause
-refusal_in terms p looked x name columns = first_of (create_cause name columns (taker_in p x name) (seen_in p x)) (over_by terms.weight (p.weight + cond looked 0 1) (create_weight columns (taker_in p x name)))
+refusal_in terms p looked x name columns = first_of (create_cause name columns (taker_in p x name) (seen_in p x)) (limit_in terms.weight (p.weight + cond looked 0 1) (length p.tables) name columns (taker_in p x name))
+
+tables_uncut : (name : List ℕ) (columns : List (List ℕ)) (taker : Option ℕ) (made : ℕ) (cause : Cause) → Some cause ≡ tables_cause (statements.CreateTable name columns) [] taker made → used_by cause ≡ 0
+tables_uncut name columns (Some other) made cause is = absurd cc
+tables_uncut name columns None made cause is = by_test (nat_lt made most_tables) is where
+  by_test : (b : Bool) → Some cause ≡ cond b None (Some (causes.Limit limits.Tables (made + 1))) → used_by cause ≡ 0
+  by_test true is = absurd cc
+  by_test false is = let one : cause ≡ causes.Limit limits.Tables (made + 1) = cc in rw one refl
+
+limit_uncut : (limit so_far made : ℕ) (name : List ℕ) (columns : List (List ℕ)) (taker : Option ℕ) (cause : Cause) → Some cause ≡ limit_in limit so_far made name columns taker → used_by cause ≡ 0
+limit_uncut limit so_far made name columns taker cause is = first_uncut (tables_cause (statements.CreateTable name columns) [] taker made) (over_by limit so_far (create_weight columns taker)) cause (λ c above. tables_uncut name columns taker made c above) (λ c above. over_uncut limit so_far (create_weight columns taker) c above) is
 
 refusal_uncut : (terms : Terms) (p : Parts) (looked : Bool) (x : ℕ) (name : List ℕ) (columns : List (List ℕ)) (cause : Cause) → Some cause ≡ refusal_in terms p looked x name columns → used_by cause ≡ 0
 refusal_uncut terms p looked x name columns cause is =
-    first_uncut (create_cause name columns (taker_in p x name) (seen_in p x)) (over_by terms.weight (p.weight + cond looked 0 1) (create_weight columns (taker_in p x name))) cause
+    first_uncut (create_cause name columns (taker_in p x name) (seen_in p x)) (limit_in terms.weight (p.weight + cond looked 0 1) (length p.tables) name columns (taker_in p x name)) cause
     (λ c found. create_uncut name columns (taker_in p x name) (seen_in p x) c found)
-    (λ c above. over_uncut terms.weight (p.weight + cond looked 0 1) (create_weight columns (taker_in p x name)) c above) is
+    (λ c above. limit_uncut terms.weight (p.weight + cond looked 0 1) (length p.tables) name columns (taker_in p x name) c above) is
 
 -- where it isn't refused, its next entry fits
 refusal_fits : (terms : Terms) (p : Parts) (looked : Bool) (x : ℕ) (name : List ℕ) (columns : List (List ℕ)) → refusal_in terms p looked x name columns ≡ None → p.weight + cond looked 0 1 + create_weight columns (taker_in p x name) ≤ terms.weight
-refusal_fits terms p looked x name columns none = over_none terms.weight (p.weight + cond looked 0 1) (create_weight columns (taker_in p x name)) (none_second (create_cause name columns (taker_in p x name) (seen_in p x)) _ none)
+refusal_fits terms p looked x name columns none = over_none terms.weight (p.weight + cond looked 0 1) (create_weight columns (taker_in p x name)) (none_second (tables_cause (statements.CreateTable name columns) [] (taker_in p x name) (length p.tables)) _ (none_second (create_cause name columns (taker_in p x name) (seen_in p x)) _ none))
 
 -- what its next entry weighs
 weight_next : (name : List ℕ) (columns : List (List ℕ)) (taker : Option ℕ) (now looked : Database) → weight_after (statements.CreateTable name columns) [] taker now looked ≡ Some (create_weight columns taker)
@@ -100,10 +130,10 @@ shape_length (name ∷ columns) = ap suc (shape_length columns)
 
 -- what is kept of a session's wait says nothing of how its statement ends
 done_so : (terms : Terms) (past : Past) (s : ℕ) (t : Session) (want : Option Want) (reply : Reply) → CanBeDone terms past s (record t { wants = want }) reply → CanBeDone terms past s t reply
-done_so terms past s t want reply d = record { outline = d.outline; in_step = d.in_step; in_xact = d.in_xact; none_done = d.none_done; none_refused = d.none_refused; answers = d.answers; keeps_block = d.keeps_block; last = d.last }
+done_so terms past s t want reply d = record { outline = d.outline; in_step = d.in_step; in_xact = d.in_xact; dones_is = d.dones_is; counted = d.counted; none_refused = d.none_refused; answers = d.answers; keeps_block = d.keeps_block; goes = d.goes }
 
 refused_so : (terms : Terms) (past : Past) (s : ℕ) (t : Session) (want : Option Want) (cause : Cause) → CanBeRefused terms past s (record t { wants = want }) cause → CanBeRefused terms past s t cause
-refused_so terms past s t want cause r = record { hand_is = r.hand_is; xact_is = r.xact_is; block_is = r.block_is; closed_is = r.closed_is; in_step = r.in_step; first_true = r.first_true; settled = r.settled; follows = r.follows }
+refused_so terms past s t want cause r = record { hand_is = r.hand_is; xact_is = r.xact_is; block_is = r.block_is; closed_is = r.closed_is; in_step = r.in_step; first_true = r.first_true; settled = r.settled; follows = r.follows; timely = r.timely }
 
 -- ---- the open transactions
 
@@ -136,7 +166,7 @@ record HasLooked (terms : Terms) (p : Parts) (s : ℕ) (t : Session) (x : ℕ) (
   weighs_so : p.weight + cond t.looked 0 1 ≡ weight past
   more : length (past_of p.journal) ≤ length past
 
-module _ (terms : Terms) (p : Parts) (s : ℕ) (t : Session) (x : ℕ) (name : List ℕ) (columns : List (List ℕ)) (kept : IsKept terms p) (seat : slice_get p.sessions s ≡ Some t) (goes_on : can_go_on (past_of p.journal) s ≡ true) (in_xact : t.xact ≡ Some x) (statement_is : statement_of terms t.hand 0 ≡ Some (statements.CreateTable name columns)) where
+module _ (terms : Terms) (p : Parts) (s : ℕ) (t : Session) (x : ℕ) (name : List ℕ) (columns : List (List ℕ)) (kept : IsKept terms p) (seat : slice_get p.sessions s ≡ Some t) (goes_on : can_go_on (past_of p.journal) s ≡ true) (in_xact : t.xact ≡ Some x) (statement_is : statement_of terms t.hand t.done ≡ Some (statements.CreateTable name columns)) where
   -- before its Look it lacks no lock, so that the limit of the journal alone can refuse it
   before_so : t.looked ≡ false → cause_at terms (past_of p.journal) x (statements.CreateTable name columns) [] None ≡ over_by terms.weight p.weight 1
   before_so before =
@@ -147,7 +177,7 @@ module _ (terms : Terms) (p : Parts) (s : ℕ) (t : Session) (x : ℕ) (name : L
   looked_just : t.looked ≡ false → over_by terms.weight p.weight 1 ≡ None → HasLooked terms p s t x name columns (Look x ∷ past_of p.journal)
   looked_just before fits =
       let w = works_first terms p s t x (statements.CreateTable name columns) kept seat in_xact statement_is before in
-      let comes : MayCome terms (past_of p.journal) (Look x) = look_may terms (past_of p.journal) s t x (statements.CreateTable name columns) w refl refl (before_so before ∙ fits) in
+      let comes : MayCome terms (past_of p.journal) (Look x) = look_may terms (past_of p.journal) s t x (statements.CreateTable name columns) w refl refl (before_so before ∙ fits) goes_on in
       let after = looks terms (past_of p.journal) s t x (statements.CreateTable name columns) w comes in
       record {
         look = past_of p.journal;
@@ -195,7 +225,7 @@ module _ (terms : Terms) (p : Parts) (s : ℕ) (t : Session) (x : ℕ) (name : L
   look_refused cause is = by_looked t.looked refl is where
     by_looked : (b : Bool) → t.looked ≡ b → Some cause ≡ cond b None (over_by terms.weight p.weight 1) → CanBeRefused terms (past_of p.journal) s t cause
     by_looked true before is = absurd cc
-    by_looked false before is = can_be_refused terms (past_of p.journal) s t x (statements.CreateTable name columns) None (works_first terms p s t x (statements.CreateTable name columns) kept seat in_xact statement_is before) cause (before_so before ∙ sym is)
+    by_looked false before is = can_be_refused terms (past_of p.journal) s t x (statements.CreateTable name columns) None (works_first terms p s t x (statements.CreateTable name columns) kept seat in_xact statement_is before) goes_on cause (before_so before ∙ sym is)
 
   pub look_amid : (cause : Cause) → Some cause ≡ cond t.looked None (over_by terms.weight p.weight 1) → IsAmid terms p s (used_by cause)
   look_amid cause is = by_looked t.looked is where
@@ -209,10 +239,13 @@ module _ (terms : Terms) (p : Parts) (s : ℕ) (t : Session) (x : ℕ) (name : L
   limit_found : (taker : Option ℕ) (now looked : Database) → limit_cause terms past x (weight_after (statements.CreateTable name columns) [] taker now looked) ≡ over_by terms.weight (p.weight + cond t.looked 0 1) (create_weight columns taker)
   limit_found taker now looked = ap (λ (next : Option ℕ). limit_cause terms past x next) (weight_next name columns taker now looked) ∙ (limit_so terms past s (record t { wants = h.want }) x (statements.CreateTable name columns) (Some h.look) h.works (goes_unblocked past s h.goes) (Some (create_weight columns taker)) ∙ rw h.weighs_so refl)
 
+  tables_counted : tables_made past ≡ length p.tables
+  tables_counted = sym (store_counted terms past) ∙ (ap (λ (tables : List KeptTable). length tables) (sym h.store_so) ∙ kept_length p.tables)
+
   cause_found : cause_at terms past x (statements.CreateTable name columns) [] (Some h.look) ≡ refusal_in terms p t.looked x name columns
   cause_found = by_parts (name_taker past x (statements.CreateTable name columns)) (latest terms past x) h.taken_so h.latest_so where
-    by_parts : (taker : Option ℕ) (now : Database) → taker ≡ taker_in p x name → now ≡ seen_in p x → first_of (create_cause name columns taker now) (limit_cause terms past x (weight_after (statements.CreateTable name columns) [] taker now (latest terms h.look x))) ≡ refusal_in terms p t.looked x name columns
-    by_parts taker now taken found = rw (limit_found taker now (latest terms h.look x), taken, found) refl
+    by_parts : (taker : Option ℕ) (now : Database) → taker ≡ taker_in p x name → now ≡ seen_in p x → first_of (create_cause name columns taker now) (first_of (tables_cause (statements.CreateTable name columns) [] taker (tables_made past)) (limit_cause terms past x (weight_after (statements.CreateTable name columns) [] taker now (latest terms h.look x)))) ≡ refusal_in terms p t.looked x name columns
+    by_parts taker now taken found = rw (limit_found taker now (latest terms h.look x), tables_counted, taken, found) refl
 
   fails : (cause : Cause) (q : Parts) → Some cause ≡ refusal_in terms p t.looked x name columns → StaysBut p q → q.tables ≡ p.tables → past_of q.journal ≡ past → HasFailed terms p q s t cause
   fails cause q is stays tables past_is =
@@ -220,7 +253,7 @@ module _ (terms : Terms) (p : Parts) (s : ℕ) (t : Session) (x : ℕ) (name : L
       let uncut : used_by cause ≡ 0 = refusal_uncut terms p t.looked x name columns cause is in
       record {
         amid = rw uncut (amid_after terms p q s 0 kept stage stays (rw (tables, past_is) h.store_so));
-        refused = rw past_is (refused_so terms past s t h.want cause (can_be_refused terms past s (record t { wants = h.want }) x (statements.CreateTable name columns) (Some h.look) h.works cause (cause_found ∙ sym is)));
+        refused = rw past_is (refused_so terms past s t h.want cause (can_be_refused terms past s (record t { wants = h.want }) x (statements.CreateTable name columns) (Some h.look) h.works h.goes cause (cause_found ∙ sym is)));
         stage = stage;
         more = rw past_is h.more;
       }
@@ -230,7 +263,7 @@ module _ (terms : Terms) (p : Parts) (s : ℕ) (t : Session) (x : ℕ) (name : L
     make_may : taker_in p x name ≡ None → MayCome terms past (Make x (length past) name (shape_of columns))
     make_may untaken = comes_make terms past s (at_work (record t { wants = h.want }) x (Some h.look)) h.works.legal h.works.doing_is h.works.settled x h.works.by name (shape_of columns)
         (act_may terms past s (record t { wants = h.want }) x (statements.CreateTable name columns) (Some h.look) h.works refl refl (cause_found ∙ free))
-        (rw h.works.statement_is (refl, refl)) (h.taken_so ∙ untaken) h.works.owed_is
+        (rw h.works.statement_is (refl, refl)) (h.taken_so ∙ untaken) h.works.owed_is h.goes
 
     makes : (number : ℕ) (q : Parts) → taker_in p x name ≡ None → number ≡ length past → StaysBut p q → all_kept q.tables ≡ all_kept p.tables ++ record { number = number; maker = x; name = name; slots = slots_of x (shape_of columns); rows = [] } ∷ [] → past_of q.journal ≡ Make x number name (shape_of columns) ∷ past → HasActed terms p q s t (replies.Tag tags.CreateTable 0) 0
     makes number q untaken place stays tables past_is =
@@ -240,7 +273,7 @@ module _ (terms : Terms) (p : Parts) (s : ℕ) (t : Session) (x : ℕ) (name : L
         record {
           amid = amid_after terms p q s 0 kept stage stays (rw (tables, past_is, h.store_so) refl);
           clear = clear_after terms p q s 0 kept stage stays;
-          done = rw past_is (done_so terms _ s t h.want _ (can_be_done terms past s (record t { wants = h.want }) x (statements.CreateTable name columns) (Some h.look) h.works (Make x number name (shape_of columns)) h.works.by (λ d. refl) (replies.Tag tags.CreateTable 0) refl refl));
+          done = rw past_is (done_so terms _ s t h.want _ (can_be_done terms past s (record t { wants = h.want }) x (statements.CreateTable name columns) (Some h.look) h.works (Make x number name (shape_of columns)) h.works.by (λ d. refl) (acted_goes terms past s (record t { wants = h.want }) x (statements.CreateTable name columns) (Some h.look) h.works (Make x number name (shape_of columns)) h.works.by (λ d. refl) h.works.settled comes) (replies.Tag tags.CreateTable 0) refl refl));
           stage = stage;
           more = rw past_is (omega (arith, h.more));
         }
@@ -258,17 +291,16 @@ module _ (terms : Terms) (p : Parts) (s : ℕ) (t : Session) (x : ℕ) (name : L
         outline = record { hand_is = refl; xact_is = sym h.works.in_xact; block_is = refl; closed_is = refl; wants_is = refl };
         underway = λ block busy. waits_underway block busy;
       }) where
-        waits_underway : (block : ℕ) → t.hand ≡ Some block → IsUnderway terms (moved past (Wait x (wants.Ends other)) (at_work (record t { wants = h.want }) x (Some h.look))) block true
+        waits_underway : (block : ℕ) → t.hand ≡ Some block → IsUnderway terms (moved past (Wait x (wants.Ends other)) (at_work (record t { wants = h.want }) x (Some h.look))) block t.done t.left true
         waits_underway block busy =
-            let in_hand_so : statement_of terms (Some block) 0 ≡ Some (statements.CreateTable name columns) = rw busy at h.works.statement_is in
+            let in_hand_so : statement_of terms (Some block) t.done ≡ Some (statements.CreateTable name columns) = rw busy at h.works.statement_is in
             record {
-              none_done = refl;
+              dones_is = refl;
+              counted = h.works.counted block busy;
               none_refused = refl;
               no_acts = refl;
               look_is = refl;
               only_creates = λ looked. rw in_hand_so tt;
-              has_one = rw in_hand_so refl;
-              has_no_more = rw busy at h.works.last;
             }
 
       waits_want : asks s (waiting (past_of p.journal)) ≡ false → WantsSo (Wait x (wants.Ends other) ∷ past)
@@ -290,7 +322,6 @@ module _ (terms : Terms) (p : Parts) (s : ℕ) (t : Session) (x : ℕ) (name : L
           queues = rw locks kept.sound.queues;
           weighed = rw past_is (weighed ∙ rw h.weighs_so refl);
           reserved = rw (sessions, locks) (omega (arith, kept.sound.reserved, room, light_set p.sessions s t (record t { looked = true; wants = Some (wants.Ends other) }) seat));
-          single = kept.sound.single;
         };
         wants_so = rw past_is (waits_want none);
         mirrors = λ r u there. rw past_is (mirrors_set terms (past_of p.journal) (Wait x (wants.Ends other) ∷ past) p.sessions s (record t { looked = true; wants = Some (wants.Ends other) }) (λ v w apart is. kept.mirrors v w is) (λ v apart. others_stay terms past s v h.works.legal apart (Wait x (wants.Ends other)) h.works.by ∙ h.stage.others v apart) waits_mirror r u (rw sessions at there));
@@ -300,7 +331,7 @@ module _ (terms : Terms) (p : Parts) (s : ℕ) (t : Session) (x : ℕ) (name : L
 -- ---- what the calls tell
 
 -- why it is refused, by the names and the taker that were handed on
-pub refusal_of : (terms : Terms) (p : Parts) (looked : Bool) (x : ℕ) (name : List ℕ) (columns written : List (List ℕ)) (taker : Option ℕ) (refusal : Option Cause) → refusal ≡ first_of (create_cause name written taker (seen_in p x)) (over_by terms.weight (p.weight + cond looked 0 1) (create_weight written taker)) → written ≡ columns → taker ≡ taker_in p x name → refusal ≡ refusal_in terms p looked x name columns
+pub refusal_of : (terms : Terms) (p : Parts) (looked : Bool) (x : ℕ) (name : List ℕ) (columns written : List (List ℕ)) (taker : Option ℕ) (refusal : Option Cause) → refusal ≡ first_of (create_cause name written taker (seen_in p x)) (limit_in terms.weight (p.weight + cond looked 0 1) (length p.tables) name written taker) → written ≡ columns → taker ≡ taker_in p x name → refusal ≡ refusal_in terms p looked x name columns
 refusal_of terms p looked x name columns written taker refusal is columns_are taker_is = rw (columns_are, taker_is) at is
 
 -- what it has noted, in a journal in which places were reserved
@@ -324,7 +355,7 @@ look_room terms p true kept = omega (arith, weighs terms (past_of p.journal) kep
 look_room terms p false kept = omega (arith, weighs terms (past_of p.journal) kept.sound.legal, kept.sound.weighed)
 
 -- the statement, in the hand of an open transaction, where the journal has a place for its Look
-module _ (terms : Terms) (p : Parts) (s : ℕ) (t : Session) (x : ℕ) (name : List ℕ) (columns : List (List ℕ)) (kept : IsKept terms p) (seat : slice_get p.sessions s ≡ Some t) (goes_on : can_go_on (past_of p.journal) s ≡ true) (in_xact : t.xact ≡ Some x) (statement_is : statement_of terms t.hand 0 ≡ Some (statements.CreateTable name columns)) (fits : cond t.looked None (over_by terms.weight p.weight 1) ≡ None) where
+module _ (terms : Terms) (p : Parts) (s : ℕ) (t : Session) (x : ℕ) (name : List ℕ) (columns : List (List ℕ)) (kept : IsKept terms p) (seat : slice_get p.sessions s ≡ Some t) (goes_on : can_go_on (past_of p.journal) s ≡ true) (in_xact : t.xact ≡ Some x) (statement_is : statement_of terms t.hand t.done ≡ Some (statements.CreateTable name columns)) (fits : cond t.looked None (over_by terms.weight p.weight 1) ≡ None) where
   abbrev now_looked : HasLooked terms p s t x name columns (look_past t.looked x (past_of p.journal))
   now_looked = has_looked terms p s t x name columns kept seat goes_on in_xact statement_is fits
 

@@ -1,12 +1,12 @@
 -- A statement that is done: its transaction commits with it, where no block is open, and its step ends.
-use Rattle.std.proofs.Common.{◌≡◌, ℕ, ◌+◌, ◌≤◌, [], ◌∷◌, length, refl, sym, ap, true, false, Bool, Option, Some, None, arith, ◌∙◌, inl, slice_get, slice_set, subst}
+use Rattle.std.proofs.Common.{◌≡◌, ℕ, ◌+◌, ◌≤◌, [], ◌∷◌, length, refl, sym, ap, true, false, Bool, Option, Some, None, arith, ◌∙◌, inl, slice_get, slice_set, subst, ◌-◌, ◌<◌, cond}
 use Rattle.std.specs.Prelude.{IsSome}
 use Rattle.al_history.specs.declared.entry.Entry.TheVariants.{Done, Commit, End}
 use Rattle.al_history.specs.declared.entry.Reply.{Reply}
 use Rattle.al_history.specs.declared.statement.Terms.{Terms}
 use Rattle.al_history.specs.Kept.{Kept}
 use Rattle.al_history.specs.Past.{Past, past_of}
-use Rattle.al_history.specs.Hand.{in_hand, statement_of, xact_of, implicit_of, if_no_block}
+use Rattle.al_history.specs.Hand.{in_hand, statement_of, xact_of, implicit_of, if_no_block, fault_of, acts_of}
 use Rattle.al_history.specs.Locks.{waiting, is_settled}
 use Rattle.al_history.specs.Made.{row_entries}
 use Rattle.al_history.specs.Tail.{commit_or_end, owed}
@@ -22,7 +22,7 @@ use Rattle.al_engine.specs.declared.sessions.Block.{Block}
 use Rattle.al_engine.specs.declared.sessions.Block.TheVariants as blocks
 use Rattle.al_engine.specs.declared.sessions.Session.{Session}
 use Rattle.al_engine.specs.LockTie.{asks, locked_by, is_granted}
-use Rattle.al_engine.specs.Sessions.{xact_in, woken, state_of, IsMirror, of_xact, of_step, light_of}
+use Rattle.al_engine.specs.Sessions.{xact_in, woken, state_of, IsMirror, of_xact, of_step, light_of, IsCounted, script_length, of_hand}
 use Rattle.al_engine.specs.Kept.{Parts, IsSound, IsAmid, IsClear, IsKept, CanBeDone}
 use Rattle.al_engine.proofs.Amid.{still_done, still_end, amid_notes, commit_comes, amid_commits, amid_stops}
 use Rattle.al_engine.proofs.Grants.{HaveCome, settled_then}
@@ -31,10 +31,15 @@ use Rattle.al_engine.proofs.Mirrors.{calm, calm_none, doing_granted, unasked_idl
 use Rattle.al_engine.proofs.SessionLemmas.{light_at}
 use Rattle.al_engine.proofs.Tails.{tail_by_done, tail_granted, rows_granted}
 use Rattle.al_engine.proofs.Woken.{calmed, woken_get}
+use Rattle.al_history.specs.Waits.{can_go_on}
+use Rattle.al_history.proofs.Implicit.{unfaulted}
+use Rattle.al_engine.specs.Ended.{IsOver}
+use Rattle.al_engine.proofs.TurnLemmas.{statement_beyond}
+use Rattle.al_engine.proofs.OverLemmas.{answered}
 
--- what a session is doing whose one statement is done, by its record
+-- what a session is doing whose last statement is done, by its record
 abbrev pub spent : Session → Option ℕ → Doing
-spent t x = record { hand = t.hand; dones = 1; refused = false; xact = x; look = None; acts = []; block = state_of t.block; closed = t.closed; wants = None }
+spent t x = record { hand = t.hand; dones = t.done + 1; refused = false; xact = x; look = None; acts = []; block = state_of t.block; closed = t.closed; wants = None }
 
 -- its record when its step has ended
 abbrev pub rested : Session → Option ℕ → Session
@@ -52,25 +57,41 @@ rests terms past s t x is =
 
 module _ (terms : Terms) (past : Past) (s block : ℕ) (t : Session) (reply : Reply) (legal : Legal terms past) (clear : IsClear terms past) (done : CanBeDone terms past s t reply) (busy : t.hand ≡ Some block) where
   pub done_comes : MayCome terms past (Done s reply)
-  done_comes = comes_done terms past s (doing past s) legal refl clear.settled reply (rw (done.outline.hand_is, done.none_done, done.outline.xact_is, done.outline.block_is) done.answers) (rw clear.owed_is tt)
+  done_comes = comes_done terms past s (doing past s) legal refl clear.settled reply (rw (done.outline.hand_is, done.dones_is, done.outline.xact_is, done.outline.block_is) done.answers) (rw clear.owed_is tt) (rw clear.owed_is done.goes)
 
   pub done_state : doing (Done s reply ∷ past) s ≡ spent t t.xact
-  done_state = own_moves past s (Done s reply) refl ∙ rw (done.outline.hand_is, done.none_done, done.none_refused, done.outline.xact_is, done.outline.block_is, done.keeps_block, done.outline.closed_is) refl
+  done_state = own_moves past s (Done s reply) refl ∙ rw (done.outline.hand_is, done.dones_is, done.none_refused, done.outline.xact_is, done.outline.block_is, done.keeps_block, done.outline.closed_is) refl
 
-  pub done_owes : owed terms (Done s reply ∷ past) ≡ Some (commit_or_end (if_no_block (state_of t.block) t.xact) s)
-  done_owes =
-      let none : in_hand terms (Done s reply ∷ past) s ≡ None = ap (λ (d : Doing). statement_of terms d.hand d.dones) done_state ∙ done.last in
+  -- it was the last one
+  pub none_after : t.left ≤ 1 → statement_of terms t.hand (t.done + 1) ≡ None
+  none_after last =
+      let counted : IsCounted terms block t.done t.left = done.counted block busy in
+      let beyond : script_length terms block ≤ t.done + 1 = omega (arith, counted.all) in
+      rw busy (statement_beyond terms block (t.done + 1) beyond)
+
+  -- its block is a script
+  pub none_at_fault : fault_of terms t.hand ≡ None
+  none_at_fault =
+      let there = answered (statement_of terms t.hand t.done) (acts_of past s) t.xact (state_of t.block) reply done.answers in
+      unfaulted terms t.hand t.done there.0 there.1
+
+  pub done_owes : t.left ≤ 1 → owed terms (Done s reply ∷ past) ≡ Some (commit_or_end (if_no_block (state_of t.block) t.xact) s)
+  done_owes last =
+      let none : in_hand terms (Done s reply ∷ past) s ≡ None = ap (λ (d : Doing). statement_of terms d.hand d.dones) done_state ∙ none_after last in
       let its : implicit_of (Done s reply ∷ past) s ≡ if_no_block (state_of t.block) t.xact = ap (λ (d : Doing). if_no_block d.block d.xact) done_state in
       rw (none, its) refl
 
 -- ---- its transaction commits with it
 
-module _ (terms : Terms) (p m q : Parts) (j : Kept) (s block x : ℕ) (t : Session) (reply : Reply) (amid : IsAmid terms p s 0) (clear : IsClear terms (past_of p.journal)) (there : slice_get p.sessions s ≡ Some t) (done : CanBeDone terms (past_of p.journal) s t reply) (busy : t.hand ≡ Some block) (outside : t.block ≡ blocks.Outside) (own : t.xact ≡ Some x) (noted : past_of j ≡ Done s reply ∷ past_of p.journal) (noted_room : j.room + 1 ≡ p.journal.room) where
+module _ (terms : Terms) (p m q : Parts) (j : Kept) (s block x : ℕ) (t : Session) (reply : Reply) (amid : IsAmid terms p s 0) (clear : IsClear terms (past_of p.journal)) (there : slice_get p.sessions s ≡ Some t) (done : CanBeDone terms (past_of p.journal) s t reply) (busy : t.hand ≡ Some block) (last : t.left ≤ 1) (outside : t.block ≡ blocks.Outside) (own : t.xact ≡ Some x) (noted : past_of j ≡ Done s reply ∷ past_of p.journal) (noted_room : j.room + 1 ≡ p.journal.room) where
   abbrev old : Past
   old = past_of p.journal
 
   abbrev a : Parts
   a = record { journal = j; sessions = p.sessions; tables = p.tables; locks = p.locks; committed = p.committed; weight = p.weight }
+
+  none_last : statement_of terms t.hand (t.done + 1) ≡ None
+  none_last = none_after terms old s block t reply amid.sound.legal clear done busy last
 
   amid_done : IsAmid terms a s 1
   amid_done = amid_notes terms p a s 0 t (Done s reply) amid there (still_done s reply) refl (done_comes terms old s block t reply amid.sound.legal clear done busy) noted noted_room refl refl refl refl refl
@@ -85,10 +106,10 @@ module _ (terms : Terms) (p m q : Parts) (j : Kept) (s block x : ℕ) (t : Sessi
   state_done = subst (λ (past : Past). doing past s ≡ spent t t.xact) (sym noted) (done_state terms old s block t reply amid.sound.legal clear done busy)
 
   owes_done : owed terms (Done s reply ∷ old) ≡ Some (Commit x)
-  owes_done = done_owes terms old s block t reply amid.sound.legal clear done busy ∙ rw (outside, own) refl
+  owes_done = done_owes terms old s block t reply amid.sound.legal clear done busy last ∙ rw (outside, own) refl
 
   commit_may : MayCome terms (past_of j) (Commit x)
-  commit_may = rw noted (comes_commit terms (Done s reply ∷ old) s (spent t t.xact) (done_comes terms old s block t reply amid.sound.legal clear done busy, amid.sound.legal) (done_state terms old s block t reply amid.sound.legal clear done busy) clear.settled x by block busy refl (inl (done.last, rw outside refl)) (rw owes_done refl))
+  commit_may = rw noted (comes_commit terms (Done s reply ∷ old) s (spent t t.xact) (done_comes terms old s block t reply amid.sound.legal clear done busy, amid.sound.legal) (done_state terms old s block t reply amid.sound.legal clear done busy) clear.settled x by block busy refl (inl (none_last, rw outside refl)) (rw owes_done refl) (rw owes_done refl))
 
   tail_done : Tail terms s old (past_of j) false (driver old) (IsLeast old s)
   tail_done = rw noted (tail_by_done terms s old reply amid.sound.legal clear.owed_is (done_comes terms old s block t reply amid.sound.legal clear done busy))
@@ -117,11 +138,11 @@ module _ (terms : Terms) (p m q : Parts) (j : Kept) (s block x : ℕ) (t : Sessi
     owes_end : owed terms (past_of m.journal) ≡ Some (End s)
     owes_end =
         let so : LeavesSo terms (Commit x ∷ past_of j) (locked_by (xact_in p.sessions) m.locks.locks.granted (Commit x ∷ past_of j)) = leaves_so terms (xact_in p.sessions) m.locks.locks.granted (Commit x ∷ past_of j) in
-        let none : in_hand terms (past_of j) s ≡ None = ap (λ (d : Doing). statement_of terms d.hand d.dones) state_done ∙ done.last in
+        let none : in_hand terms (past_of j) s ≡ None = ap (λ (d : Doing). statement_of terms d.hand d.dones) state_done ∙ none_last in
         rw c_noted (so.owes ∙ rw (by_done.session, none) refl)
 
     end_may : MayCome terms (past_of m.journal) (End s)
-    end_may = comes_end terms (past_of m.journal) s (spent t None) amid_committed.sound.legal state_committed settled_then_so block busy (inl done.last) (rw outside refl) (rw owes_end refl)
+    end_may = comes_end terms (past_of m.journal) s (spent t None) amid_committed.sound.legal state_committed settled_then_so block busy (inl (record { is_script = none_at_fault terms old s block t reply amid.sound.legal clear done busy; none_left = none_last })) (rw outside refl) (rw owes_end refl) (rw owes_end refl)
 
     tail_committed : Tail terms s old (past_of m.journal) false (driver old) (IsLeast old s)
     tail_committed = rw c_noted (tail_granted terms s old (Commit x ∷ past_of j) false (driver old) (IsLeast old s) (xact_in p.sessions) m.locks.locks come (tail_on terms s old (past_of j) false (driver old) (IsLeast old s) (Commit x) tail_done (tail_commit x) (λ past r. refl) (inl by_done.session) commit_may (rw noted (rw owes_done tt))))
@@ -138,50 +159,43 @@ module _ (terms : Terms) (p m q : Parts) (j : Kept) (s block x : ℕ) (t : Sessi
       pub commits_rows : row_entries (past_of q.journal) ≡ row_entries old
       commits_rows = rw (e_noted, c_noted) (rows_granted (xact_in p.sessions) m.locks.locks.granted (Commit x ∷ past_of j) ∙ rw noted refl)
 
--- ---- its block is open, and so its transaction stays
+-- ---- no implicit transaction ends with it
 
-step_three : (o : Option ℕ) → 3 ≤ of_step o
-step_three None = omega arith
-step_three (Some x) = omega arith
+pub step_three : (o : Option ℕ) (left : ℕ) → 3 ≤ of_step o left
+step_three None left = omega arith
+step_three (Some x) left = omega arith
 
-module _ (terms : Terms) (p q : Parts) (j : Kept) (s block : ℕ) (t : Session) (reply : Reply) (amid : IsAmid terms p s 0) (clear : IsClear terms (past_of p.journal)) (there : slice_get p.sessions s ≡ Some t) (done : CanBeDone terms (past_of p.journal) s t reply) (busy : t.hand ≡ Some block) (within : if_no_block (state_of t.block) t.xact ≡ None) (noted : past_of j ≡ Done s reply ∷ past_of p.journal) (noted_room : j.room + 1 ≡ p.journal.room) (e_noted : past_of q.journal ≡ End s ∷ past_of j) (e_room : q.journal.room + 1 ≡ j.room) (e_set : q.sessions ≡ slice_set p.sessions s (rested t t.xact)) (e_tables : q.tables ≡ p.tables) (e_locks : q.locks ≡ p.locks) (e_committed : q.committed ≡ p.committed) (e_weight : q.weight ≡ p.weight) where
-  abbrev start : Past
-  start = past_of p.journal
-
-  abbrev between : Parts
-  between = record { journal = j; sessions = p.sessions; tables = p.tables; locks = p.locks; committed = p.committed; weight = p.weight }
-
-  comes_so : MayCome terms start (Done s reply)
-  comes_so = done_comes terms start s block t reply amid.sound.legal clear done busy
-
-  amid_open : IsAmid terms between s 1
-  amid_open = amid_notes terms p between s 0 t (Done s reply) amid there (still_done s reply) refl comes_so noted noted_room refl refl refl refl refl
-
-  state_open : doing (past_of j) s ≡ spent t t.xact
-  state_open = subst (λ (past : Past). doing past s ≡ spent t t.xact) (sym noted) (done_state terms start s block t reply amid.sound.legal clear done busy)
-
-  owes_open : owed terms (past_of j) ≡ Some (End s)
-  owes_open = rw noted (done_owes terms start s block t reply amid.sound.legal clear done busy ∙ rw within refl)
-
-  settled_open : is_settled (past_of j) ≡ true
-  settled_open = rw noted clear.settled
-
-  end_open : MayCome terms (past_of j) (End s)
-  end_open = comes_end terms (past_of j) s (spent t t.xact) amid_open.sound.legal state_open settled_open block busy (inl done.last) within (rw owes_open refl)
-
-  pub stays_kept : IsKept terms q
-  stays_kept =
-      let fits : light_of (rested t t.xact) + 1 + 1 ≤ light_of t = rw busy (omega (arith, step_three t.xact)) in
-      let unasked : asks s (waiting (past_of j)) ≡ false = rw noted (unasked_free terms start s amid.sound.legal clear.owed_is done.outline.wants_is) in
-      amid_stops terms between q s 1 t (rested t t.xact) (End s) amid_open there (still_end s) refl end_open unasked settled_open refl (rests terms (past_of j) s t t.xact state_open) (λ y its. its) fits e_noted e_room e_set e_tables e_locks e_committed e_weight
-
-  pub stays_went : Went terms s start (past_of q.journal) false (driver start) (IsLeast start s)
-  stays_went =
-      let tail : Tail terms s start (past_of j) false (driver start) (IsLeast start s) = rw noted (tail_by_done terms s start reply amid.sound.legal clear.owed_is comes_so) in
-      rw e_noted (tail_ends terms s start (past_of j) false (driver start) (IsLeast start s) tail end_open (rw owes_open tt))
-
-  pub stays_rows : row_entries (past_of q.journal) ≡ row_entries start
-  stays_rows = rw (e_noted, noted) refl
+-- it is done, and its step goes on or ends
+pub over_by_done : (terms : Terms) (p : Parts) (s block : ℕ) (t : Session) (reply : Reply) → IsAmid terms p s 0 → IsClear terms (past_of p.journal) → slice_get p.sessions s ≡ Some t → CanBeDone terms (past_of p.journal) s t reply → t.hand ≡ Some block  → (t.left ≤ 1 → if_no_block (state_of t.block) t.xact ≡ None) → IsOver terms p s 0 t t (past_of p.journal) t.xact reply
+over_by_done terms p s block t reply amid clear there done busy within =
+    let start : Past = past_of p.journal in
+    let comes_so : MayCome terms start (Done s reply) = done_comes terms start s block t reply amid.sound.legal clear done busy in
+    record {
+      amid = amid;
+      there = there;
+      is_last = record {
+        block = block;
+        busy = done.outline.hand_is ∙ busy;
+        hand_is = busy;
+        dones_is = done.dones_is;
+        counted = done.counted block busy;
+        unrefused = done.none_refused;
+        xact_is = done.outline.xact_is;
+        block_is = done.outline.block_is;
+        closed_is = done.outline.closed_is;
+        none_left = λ last. rw done.keeps_block (within last);
+      };
+      settled = clear.settled;
+      unasked = unasked_free terms start s amid.sound.legal clear.owed_is done.outline.wants_is;
+      comes = comes_so;
+      tail = tail_by_done terms s start reply amid.sound.legal clear.owed_is comes_so;
+      its = λ x is. is;
+      fits = λ b. rw busy (omega (arith, step_three t.xact t.left));
+      fits_on = λ b more. goes_fit t.xact more;
+    } where
+      goes_fit : (o : Option ℕ) → 1 < t.left → cond t.closed 0 1 + (of_xact o + of_hand t.hand o (t.left - 1)) + 0 + 1 ≤ cond t.closed 0 1 + (of_xact o + of_hand t.hand o t.left)
+      goes_fit None more = rw busy (omega arith)
+      goes_fit (Some x) more = rw busy (omega arith)
 
 -- ---- what the code asks for
 
@@ -200,7 +214,7 @@ busy_by t in_step = by_hand t.hand refl in_step where
 pub spare : (terms : Terms) (p : Parts) (s used : ℕ) (t : Session) → IsSound terms p used → slice_get p.sessions s ≡ Some t → IsSome t.hand → of_xact t.xact + 3 + length p.locks.locks.waiting ≤ p.journal.room + used
 spare terms p s used t sound there in_step =
     let b : IsBusy t = busy_by t in_step in
-    let most : of_xact t.xact + 3 ≤ light_of t = rw b.is (omega (arith, step_three t.xact)) in
+    let most : of_xact t.xact + 3 ≤ light_of t = rw b.is (omega (arith, step_three t.xact t.left)) in
     omega (arith, most, light_at p.sessions s t there, sound.reserved)
 
 pub not_outside : (b : Block) (x : Option ℕ) → (b ≡ blocks.Outside → ⊥) → if_no_block (state_of b) x ≡ None

@@ -1,5 +1,5 @@
 -- What the engine keeps through each of its calls, and what contracts see of them.
-use Rattle.std.proofs.Common.{◌≡◌, ℕ, suc, zero, ◌+◌, ◌<◌, ◌≤◌, List, [], ◌∷◌, length, refl, sym, ap, subst, cond, true, false, Bool, Option, Some, None, arith, ◌∙◌, slice_get, slice_set, option_map, replicate, inl, inr}
+use Rattle.std.proofs.Common.{◌≡◌, ℕ, suc, zero, ◌+◌, ◌<◌, ◌≤◌, List, [], ◌∷◌, length, refl, sym, ap, subst, cond, true, false, Bool, Option, Some, None, arith, ◌∙◌, slice_get, slice_set, option_map, replicate, inl, inr, ◌-◌, ◌^◌}
 use Rattle.std.specs.Prelude.{◌==◌, IsSome, is_some, get_or}
 use Rattle.std.specs.List.{AllByRecursion}
 use Rattle.std.proofs.lemmas.Bool.{ne_eqb}
@@ -11,7 +11,7 @@ use Rattle.al_history.specs.declared.statement.ScriptBlock.{ScriptBlock}
 use Rattle.al_history.specs.declared.statement.Terms.{Terms}
 use Rattle.al_history.specs.Kept.{Kept}
 use Rattle.al_history.specs.Past.{Past, past_of}
-use Rattle.al_history.specs.Hand.{hand, dones, in_hand, xact_of, closed, statement_of}
+use Rattle.al_history.specs.Hand.{hand, dones, in_hand, xact_of, closed, statement_of, refused as told_refused}
 use Rattle.al_history.specs.Legal.{MayCome}
 use Rattle.al_history.specs.Tail.{owed}
 use Rattle.al_history.specs.Waits.{wanted_by, is_blocked, can_go_on}
@@ -24,9 +24,9 @@ use Rattle.al_history.proofs.Turns.{Went, extends_on, extends_by, extends_none}
 use Rattle.al_queue.specs.Walk.{released}
 use Rattle.al_queue.specs.Settled.{IsSettled, HandsOn}
 use Rattle.al_engine.specs.declared.sessions.Session.{Session}
-use Rattle.al_engine.specs.Ran.{IsSingle, AreSingle, WentOn, IsWaitingTurn, IsCancelled, IsClosed}
+use Rattle.al_engine.specs.Ran.{WentOn, IsWaitingTurn, IsCancelled, IsClosed}
 use Rattle.al_engine.specs.LockTie.{locked_by, locks_of, is_granted}
-use Rattle.al_engine.specs.Sessions.{idle_session, IsMirror, xact_in, woken, is_held_up, light, light_of, of_step, of_xact}
+use Rattle.al_engine.specs.Sessions.{idle_session, IsMirror, xact_in, woken, is_held_up, light, light_of, of_step, of_xact, script_length}
 use Rattle.al_engine.specs.Kept.{Parts, IsAmid, IsKept, IsSame, CanBeRefused, IsRefused}
 use Rattle.al_engine.specs.Closing.{HasLeft}
 use Rattle.al_engine.proofs.Amid.{still_cancel, still_close, amid_begins, amid_notes, abort_comes, amid_aborts, amid_stops}
@@ -37,6 +37,7 @@ use Rattle.al_engine.proofs.Tails.{extends_granted}
 use Rattle.al_engine.proofs.Woken.{calmed, woken_get}
 use Rattle.al_engine.proofs.StoredLemmas.{tells_none}
 use Rattle.al_engine.proofs.SessionLemmas.{light_at, light_set, light_idle, length_set, got_idle, held_up_is, wanting_busy, idle_asks, mirrors_set, marked_set}
+use Rattle.al_history.proofs.Agenda.{moves_same}
 
 -- ---- one of the sessions
 
@@ -60,11 +61,11 @@ module _ (terms : Terms) (p : Parts) (kept : IsKept terms p) (s : ℕ) (t : Sess
   is_busy there e = let block = some_of t.hand e in (block.0, block.1, hand_is there ∙ block.1)
 
   -- its statement in hand is the one of its block
-  pub statement_there : slice_get p.sessions s ≡ Some t → is_some t.hand ≡ true → in_hand terms (past_of p.journal) s ≡ statement_of terms t.hand 0
+  pub statement_there : slice_get p.sessions s ≡ Some t → is_some t.hand ≡ true → in_hand terms (past_of p.journal) s ≡ statement_of terms t.hand t.done
   statement_there there e =
       let block = some_of t.hand e in
-      let none_done : dones (past_of p.journal) s ≡ 0 = ((kept.mirrors s t there).underway block.0 block.1).none_done in
-      rw (hand_is there, none_done) refl
+      let dones_is : dones (past_of p.journal) s ≡ t.done = ((kept.mirrors s t there).underway block.0 block.1).dones_is in
+      rw (hand_is there, dones_is) refl
 
   pub is_idle : slice_get p.sessions s ≡ Some t → is_some t.hand ≡ false → hand (past_of p.journal) s ≡ None
   is_idle there e = hand_is there ∙ none_of t.hand e
@@ -83,8 +84,8 @@ module _ (terms : Terms) (p : Parts) (kept : IsKept terms p) (s : ℕ) (t : Sess
 
 -- ---- the first moment
 
-pub open_keeps : (terms : Terms) (p : Parts) → p.journal.entries ≡ [] → p.journal.room ≡ terms.scripts.sessions → p.sessions ≡ replicate terms.scripts.sessions idle_session → p.tables ≡ [] → p.locks ≡ record { sessions = terms.scripts.sessions; locks = record { held = []; waiting = []; granted = [] } } → p.committed ≡ [] → p.weight ≡ 0 → AreSingle terms.scripts → IsKept terms p
-open_keeps terms p none room idle tables locks committed weighs single =
+pub open_keeps : (terms : Terms) (p : Parts) → p.journal.entries ≡ [] → p.journal.room ≡ terms.scripts.sessions → p.sessions ≡ replicate terms.scripts.sessions idle_session → p.tables ≡ [] → p.locks ≡ record { sessions = terms.scripts.sessions; locks = record { held = []; waiting = []; granted = [] } } → p.committed ≡ [] → p.weight ≡ 0 → IsKept terms p
+open_keeps terms p none room idle tables locks committed weighs =
     let past : past_of p.journal ≡ [] = rw none refl in
     record {
       sound = record {
@@ -101,7 +102,6 @@ open_keeps terms p none room idle tables locks committed weighs single =
         queues = rw locks tt;
         weighed = rw past weighs;
         reserved = rw (idle, locks, light_idle terms.scripts.sessions) (omega (arith, room));
-        single = single;
       };
       wants_so = λ c there. absurd (let wrong : false ≡ true = rw past at there in cc);
       mirrors = λ r t is.
@@ -131,7 +131,6 @@ same_keeps terms p q same kept =
         queues = rw same.locks sound.queues;
         weighed = rw (same.journal, same.weight) sound.weighed;
         reserved = rw (same.sessions, same.locks) (omega (arith, sound.reserved, same.room));
-        single = sound.single;
       };
       wants_so = rw same.journal kept.wants_so;
       mirrors = rw (same.journal, same.sessions) kept.mirrors;
@@ -140,41 +139,28 @@ same_keeps terms p q same kept =
 
 -- ---- a block is given
 
-single_at : (sessions : ℕ) (blocks : List ScriptBlock) (block : ℕ) (b : ScriptBlock) → AllByRecursion (IsSingle sessions) blocks → slice_get blocks block ≡ Some b → IsSingle sessions b
-single_at sessions [] block b all is = absurd cc
-single_at sessions (c ∷ blocks) zero b all is = let e : c ≡ b = cc in subst (λ (d : ScriptBlock). IsSingle sessions d) e all.0
-single_at sessions (c ∷ blocks) (suc block) b all is = single_at sessions blocks block b all.1 is
+-- most light entries are reserved for a step where no transaction is open
+step_light : (o : Option ℕ) (left : ℕ) → of_step o left ≤ of_step None left
+step_light None left = omega arith
+step_light (Some x) left = omega arith
 
--- a block that is given has its one statement
-has_its_one : (terms : Terms) (s block : ℕ) → AreSingle terms.scripts → option_map (λ (b : ScriptBlock). b.session) (slice_get terms.scripts.blocks block) ≡ Some s → IsSome (statement_of terms (Some block) 0) × (statement_of terms (Some block) 1 ≡ None)
-has_its_one terms s block single of_session = by_block (slice_get terms.scripts.blocks block) refl of_session where
-  by_block : (o : Option ScriptBlock) → slice_get terms.scripts.blocks block ≡ o → option_map (λ (b : ScriptBlock). b.session) o ≡ Some s → IsSome (statement_of terms (Some block) 0) × (statement_of terms (Some block) 1 ≡ None)
-  by_block None is e = absurd cc
-  by_block (Some b) is e = let one = single_at terms.scripts.sessions terms.scripts.blocks block b single is in (rw is one.has_one, rw is one.has_no_more)
-
--- five light entries at most are reserved for a step
-step_light : (o : Option ℕ) → of_step o ≤ 5
-step_light None = omega arith
-step_light (Some x) = omega arith
-
-pub give_keeps : (terms : Terms) (p : Parts) (new : Kept) (s block : ℕ) (t : Session) → IsKept terms p → slice_get p.sessions s ≡ Some t → t.hand ≡ None → s < terms.scripts.sessions → option_map (λ (b : ScriptBlock). b.session) (slice_get terms.scripts.blocks block) ≡ Some s → closed (past_of p.journal) s ≡ false → past_of new ≡ Give s block ∷ past_of p.journal → new.room ≡ p.journal.room + 5
-    → IsKept terms (record p { journal = new; sessions = slice_set p.sessions s (record t { hand = Some block; looked = false; wants = None }) })
-give_keeps terms p new s block t kept there none known of_session open_so is room =
+pub give_keeps : (terms : Terms) (p : Parts) (new : Kept) (s block statements : ℕ) (t : Session) → IsKept terms p → slice_get p.sessions s ≡ Some t → t.hand ≡ None → statements ≡ script_length terms block → statements < 2 ^ 32 → s < terms.scripts.sessions → option_map (λ (b : ScriptBlock). b.session) (slice_get terms.scripts.blocks block) ≡ Some s → closed (past_of p.journal) s ≡ false → past_of new ≡ Give s block ∷ past_of p.journal → p.journal.room + of_step None statements ≤ new.room
+    → IsKept terms (record p { journal = new; sessions = slice_set p.sessions s (record t { hand = Some block; done = 0; left = statements; looked = false; wants = None }) })
+give_keeps terms p new s block statements t kept there none count few known of_session open_so is room =
     let past : Past = past_of p.journal in
     let sound = kept.sound in
     let outline = (kept.mirrors s t there).outline in
     let idle : hand (past_of p.journal) s ≡ None = outline.hand_is ∙ none in
     let comes = comes_give terms (past_of p.journal) s (doing (past_of p.journal) s) sound.legal refl kept.clear.settled block known of_session open_so idle kept.clear.owed_is in
     let others : (r : ℕ) → (s == r) ≡ false → doing (Give s block ∷ past_of p.journal) r ≡ doing (past_of p.journal) r = λ r other. others_stay terms (past_of p.journal) s r sound.legal other (Give s block) refl in
-    let u : Session = record t { hand = Some block; looked = false; wants = None } in
-    let was : light_of t + of_step t.xact ≡ light_of (record t { hand = Some block; looked = false; wants = None }) = rw none (omega arith) in
-    let one = has_its_one terms s block sound.single of_session in
+    let u : Session = record t { hand = Some block; done = 0; left = statements; looked = false; wants = None } in
+    let was : light_of t + of_step t.xact statements ≡ light_of (record t { hand = Some block; done = 0; left = statements; looked = false; wants = None }) = rw none (omega arith) in
     record {
       sound = record {
         legal = rw is (comes, sound.legal);
         count = length_set p.sessions s _ ∙ sound.count;
         beyond = λ r le.
-            let from : length p.sessions ≤ r = omega (arith, length_set p.sessions s (record t { hand = Some block; looked = false; wants = None })) in
+            let from : length p.sessions ≤ r = omega (arith, length_set p.sessions s (record t { hand = Some block; done = 0; left = statements; looked = false; wants = None })) in
             let other : (s == r) ≡ false = other_of r (omega (arith, slice_get_within p.sessions s t there)) in
             rw (is, other) (sound.beyond r from);
         stored = rw is sound.stored;
@@ -184,14 +170,13 @@ give_keeps terms p new s block t kept there none known of_session open_so is roo
         tied = rw is (record { waits = sound.tied.waits; holds = sound.tied.holds; apart = sound.tied.apart });
         queues = sound.queues;
         weighed = rw is sound.weighed;
-        reserved = omega (arith, light_set p.sessions s t (record t { hand = Some block; looked = false; wants = None }) there, was, step_light t.xact, room, sound.reserved);
-        single = sound.single;
+        reserved = omega (arith, light_set p.sessions s t (record t { hand = Some block; done = 0; left = statements; looked = false; wants = None }) there, was, step_light t.xact statements, room, sound.reserved);
       };
       wants_so = rw is (λ c waits. let other : (s == c.session) ≡ false = idle_asks terms (past_of p.journal) s sound.legal kept.wants_so idle c waits in rw other (kept.wants_so c waits));
       mirrors = rw is (mirrors_set terms (past_of p.journal) (Give s block ∷ past_of p.journal) p.sessions s _ (λ r u other at. kept.mirrors r u at) others
           (rw (own_moves (past_of p.journal) s (Give s block) refl) (record {
             outline = record { hand_is = refl; xact_is = outline.xact_is; block_is = outline.block_is; closed_is = outline.closed_is; wants_is = refl };
-            underway = λ b e. let same : block ≡ b = cc in rw (← same) (record { none_done = refl; none_refused = refl; no_acts = refl; look_is = refl; only_creates = λ e. absurd cc; has_one = one.0; has_no_more = one.1 });
+            underway = λ b e. let same : block ≡ b = cc in rw (← same) (record { dones_is = refl; counted = record { all = omega (arith, count); few = omega (arith, few); some = λ e. refl }; none_refused = refl; no_acts = refl; look_is = refl; only_creates = λ e. absurd cc });
           })));
       clear = rw is (record { owed_is = refl; settled = kept.clear.settled });
     } where
@@ -200,10 +185,13 @@ give_keeps terms p new s block t kept there none known of_session open_so is roo
 
 -- ---- a turn
 
+fewer : (m n : ℕ) → m < n → m < 2 ^ 32 → 2 ^ 32 - n < 2 ^ 32 - m
+fewer m n lt range = omega arith
+
 pub turn_went : (terms : Terms) (p : Parts) (after : Past) (s : ℕ) (t : Session) (refused : Bool) → IsKept terms p → slice_get p.sessions s ≡ Some t → is_some t.hand ≡ true → is_held_up p.sessions t.wants ≡ false
-    → Went terms s (past_of p.journal) after refused (driver (past_of p.journal)) (IsLeast (past_of p.journal) s)
+    → Went terms s (past_of p.journal) after refused (driver (past_of p.journal)) (IsLeast (past_of p.journal) s) → length (past_of p.journal) < 2 ^ 32
     → WentOn (record { terms = terms; past = past_of p.journal }) (record { terms = terms; past = after }) s (length (past_of p.journal)) (length after) refused
-turn_went terms p after s t refused kept there busy free went =
+turn_went terms p after s t refused kept there busy free went in_range =
     let block = is_busy terms p kept s t there busy in
     record {
       goes_on = record {
@@ -214,26 +202,30 @@ turn_went terms p after s t refused kept there busy free went =
         others = went.hands;
         closed_same = went.closed_same;
         failed = went.failed;
+        told = went.told unrefused;
       };
       not_blocked = sym (held_up_is terms p kept s t there) ∙ free;
       refused_ends = went.refused_ends;
       from_is = refl;
       to_is = refl;
-      some = went.more;
+      fewer_left = fewer (length (past_of p.journal)) (length after) went.more in_range;
+      left_is = went.left_is;
       one_row = went.one_row;
       driven = went.driven;
       in_turn = went.in_turn;
-    }
+    } where
+      unrefused : told_refused (past_of p.journal) s ≡ false
+      unrefused = let block = is_busy terms p kept s t there busy in ((kept.mirrors s t there).underway block.0 block.1).none_refused
 
 -- ---- a step is cancelled
 
 module _ (terms : Terms) (p : Parts) (s block : ℕ) (t : Session) (kept : IsKept terms p) (there : slice_get p.sessions s ≡ Some t) (busy : t.hand ≡ Some block) where
-  cancel_light : 4 ≤ light p.sessions
+  cancel_light : 3 ≤ light p.sessions
   cancel_light =
-      let own : 4 ≤ of_xact t.xact + of_step t.xact = least t.xact in
-      let all : light_of t ≡ cond t.closed 0 1 + (of_xact t.xact + of_step t.xact) = rw busy refl in
+      let own : 3 ≤ of_xact t.xact + of_step t.xact t.left = least t.xact in
+      let all : light_of t ≡ cond t.closed 0 1 + (of_xact t.xact + of_step t.xact t.left) = rw busy refl in
       omega (arith, light_at p.sessions s t there) where
-        least : (o : Option ℕ) → 4 ≤ of_xact o + of_step o
+        least : (o : Option ℕ) → 3 ≤ of_xact o + of_step o t.left
         least None = omega arith
         least (Some x) = omega arith
 
@@ -260,6 +252,7 @@ module _ (terms : Terms) (p : Parts) (s block : ℕ) (t : Session) (kept : IsKep
           first_true = rw (if_same s) refl;
           settled = kept.clear.settled;
           follows = refl;
+          timely = refl;
         })
 
     module _ (after : Past) (exact : IsRefused (past_of new) after s t.xact (causes.Cancelled (length (past_of p.journal))))
@@ -278,14 +271,18 @@ module _ (terms : Terms) (p : Parts) (s block : ℕ) (t : Session) (kept : IsKep
               others = did.hands;
               closed_same = did.closed_same;
               failed = did.failed;
+              told = did.told unrefused;
             };
+            left_is = λ spec steps. did.left_is spec steps;
             aborted = ends.aborted;
             is_aborted = rw (kept.mirrors s t there).outline.xact_is ends.is_aborted;
             is = ends.is;
             ended = rw (ends.is, if_same s) refl;
             driven = did.driven;
             in_turn = λ idle d. did.in_turn tt (idle, d);
-          }
+          } where
+            unrefused : told_refused (past_of p.journal) s ≡ false
+            unrefused = ((kept.mirrors s t there).underway block busy).none_refused
 
 -- ---- a session is closed
 
@@ -321,6 +318,7 @@ module _ (terms : Terms) (p : Parts) (s : ℕ) (t : Session) (kept : IsKept term
         closed_same = λ r. refl;
         driven_so = refl;
         failed = λ spec. refl;
+        tasks = λ spec steps. refl;
         in_turn = λ driven. driven;
       }
 
@@ -335,7 +333,7 @@ module _ (terms : Terms) (p : Parts) (s : ℕ) (t : Session) (kept : IsKept term
         record { session = (xact_is terms old s x kept.sound.legal open_xact).own; open_xact = open_xact }
 
     aborts : MayCome terms old (Abort x)
-    aborts = comes_abort terms old s (doing old s) kept.sound.legal refl kept.clear.settled x by_own (inl (inr idle)) (rw kept.clear.owed_is tt)
+    aborts = comes_abort terms old s (doing old s) kept.sound.legal refl kept.clear.settled x by_own (inl (inr idle)) (rw kept.clear.owed_is tt) (rw idle refl)
 
     come : HaveCome terms (xact_in p.sessions) q.locks.locks.granted (Abort x ∷ old) q.locks.locks
     come = abort_comes terms p q s 0 x t (amid_begins terms p s kept) there by_own hands_on aborts
@@ -364,6 +362,7 @@ module _ (terms : Terms) (p : Parts) (s : ℕ) (t : Session) (kept : IsKept term
           closed_same = λ r. rw noted (leaves.closed_same r);
           driven_so = rw noted leaves.driven_so;
           failed = λ spec. rw noted (leaves.failed spec);
+          tasks = λ spec steps. rw noted (leaves.left_is spec steps);
           in_turn = λ driven. rw noted (driven_then terms (Abort x ∷ old) (xact_in p.sessions) q.locks.locks come (rw (by_own.session, idle) tt, driven));
         }
 
@@ -414,6 +413,7 @@ module _ (terms : Terms) (p : Parts) (s : ℕ) (t : Session) (kept : IsKept term
       hands = left.hands;
       closed_now = λ r. rw (left.closed_same r) refl;
       failed = left.failed;
+      left_is = λ spec steps. rw (left.tasks spec steps, moves_same spec (past_of p.journal) last left.hands _) refl;
       driven = rw left.driven_so refl;
       in_turn = λ driven. (tt, left.in_turn driven);
     })

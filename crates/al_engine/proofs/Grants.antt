@@ -25,8 +25,9 @@ use Rattle.al_history.proofs.Sole.{grant_alone}
 use Rattle.al_history.proofs.Xacts.{xact_is, turn}
 use Rattle.al_engine.specs.Ran.{AreGrants}
 use Rattle.al_engine.specs.LockTie.{grant_of, asks, AreApart, IsTied, Knows, lock_by, locked_by, locks_of, is_granted}
-use Rattle.al_engine.proofs.Ties.{any_held, asks_append, without_none, apart_left, holds_push, ahead_of_it, settled_tied, tie_released}
+use Rattle.al_engine.proofs.Ties.{any_held, asks_append, without_none, apart_left, holds_push, ahead_of_it, settled_tied, tie_released, distinct_of}
 use Rattle.al_engine.proofs.LockLists.{locked_is, grants_push, driven_grants, weight_grants}
+use Rattle.al_history.proofs.Requests.{takes_own}
 
 -- ---- the next lock
 
@@ -99,28 +100,32 @@ module _ (terms : Terms) (past : Past) (locks : Locks) (xact : ℕ → ℕ) (g :
     rule = record { open_xact = rw own open_so; can_be = rw own can; asked = inl (record { waits = is_its; ascends = ascends }) };
     settled = rw is_its tt;
     follows = rw is_its tt;
+    timely = rw is_its refl;
     alone = grant_alone past (xact g.session) g.table g.mode (rw own can);
   }
+
+  left_so : waiting (lock_by xact g ∷ past) ≡ without g.session (waiting past)
+  left_so = rw own (takes_own (claim_of g) (waiting past) (distinct_of (waiting past) tied.apart) (inl there))
 
   still_tied : IsTied (lock_by xact g ∷ past) (record { held = locks.held ++ g ∷ []; waiting = next.ahead ++ next.behind; granted = locks.granted })
   still_tied =
       let left : without g.session (waiting past) ≡ map claim_of (next.ahead ++ next.behind) = rw split (left_apart (map claim_of next.ahead) (map claim_of next.behind) (claim_of g) apart ∙ sym (claims_append next.ahead next.behind)) in
       record {
-        waits = rw (own, left) (sym (grants_again (next.ahead ++ next.behind)));
+        waits = rw (left_so, left) (sym (grants_again (next.ahead ++ next.behind)));
         holds = λ test. holds_push past locks (xact g.session) (claim_of g) own tied test;
-        apart = rw own (apart_left g.session (waiting past) tied.apart);
+        apart = rw left_so (apart_left g.session (waiting past) tied.apart);
       }
 
   still_knows : Knows (lock_by xact g ∷ past) xact
-  still_knows c left = knows c (held_left (session_of past (xact g.session)) (waiting past) c left).0
+  still_knows c left = knows c (held_left g.session (waiting past) c (rw left_so at left)).0
 
   wants_no_more : (r : ℕ) → wanted_by (lock_by xact g ∷ past) r ≡ cond (g.session == r) None (wanted_by past r)
   wants_no_more r = rw own refl
 
   waits_still : (c : Claim) (b : Bool) → (is_held (waiting (lock_by xact g ∷ past)) c ≡ true) × (b ≡ false) → (is_held (waiting past) c ≡ true) × (((g.session == c.session) || b) ≡ false)
   waits_still c b there =
-      let left = held_left (session_of past (xact g.session)) (waiting past) c there.0 in
-      (left.0, or_from (g.session == c.session) b (turn c.session g.session (rw own at left.1)) there.1)
+      let left = held_left g.session (waiting past) c (rw left_so at there.0) in
+      (left.0, or_from (g.session == c.session) b (turn c.session g.session left.1) there.1)
 
 -- ---- all of them
 

@@ -20,3 +20,5 @@ pub mod TurnLemmas
 pub mod UseLemmas
 pub mod Wanted
 pub mod Woken
+pub mod OverLemmas
+pub mod FinishLemmas

@@ -17,7 +17,7 @@ use Rattle.al_history.specs.Tail.{owed}
 use Rattle.al_history.specs.View.{view_by, latest, committed}
 use Rattle.al_history.specs.Legal.{MayCome, Legal}
 use Rattle.al_history.specs.Weight.{weight}
-use Rattle.al_history.specs.Whole.{driver, failed_setup, Driven}
+use Rattle.al_history.specs.Whole.{driver, failed_setup, Driven, left}
 use Rattle.al_engine.specs.Ran.{AreGrants}
 use Rattle.al_engine.specs.LockTie.{lock_by, locked_by, locks_of}
 
@@ -87,6 +87,7 @@ pub record LeavesSo (terms : Terms) (past after : Past) : Type 0 where
   pub owes : owed terms after ≡ owed terms past
   pub driven_so : driver after ≡ driver past
   pub failed : (spec : Spec) → failed_setup spec after ≡ failed_setup spec past
+  pub left_is : (spec : Spec) (steps : List ℕ) → left spec steps after ≡ left spec steps past
   pub stored : store terms after ≡ store terms past
   pub viewed : (stands : ℕ → Standing) → view_by terms stands after ≡ view_by terms stands past
   pub latest_same : (x : ℕ) → latest terms after x ≡ latest terms past x
@@ -108,6 +109,7 @@ leaves_so terms xact [] past = record {
   owes = refl;
   driven_so = refl;
   failed = λ spec. refl;
+  left_is = λ spec steps. refl;
   stored = refl;
   viewed = λ stands. refl;
   latest_same = λ x. refl;
@@ -130,6 +132,7 @@ leaves_so terms xact (g ∷ grants) past =
       owes = more.owes;
       driven_so = more.driven_so;
       failed = more.failed;
+      left_is = more.left_is;
       stored = more.stored;
       viewed = more.viewed;
       latest_same = more.latest_same;

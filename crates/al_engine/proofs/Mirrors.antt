@@ -35,15 +35,14 @@ pub calm_none : (b : Bool) (d : Doing) → d.wants ≡ None → calm b d ≡ d
 calm_none true d is = rw (← is) refl
 calm_none false d is = refl
 
-calm_underway : (terms : Terms) (d : Doing) (b : Bool) (block : ℕ) (looked : Bool) → IsUnderway terms d block looked → IsUnderway terms (calm b d) block looked
-calm_underway terms d b block looked under = record {
-  none_done = under.none_done;
+calm_underway : (terms : Terms) (d : Doing) (b : Bool) (block done left : ℕ) (looked : Bool) → IsUnderway terms d block done left looked → IsUnderway terms (calm b d) block done left looked
+calm_underway terms d b block done left looked under = record {
+  dones_is = under.dones_is;
+  counted = under.counted;
   none_refused = under.none_refused;
   no_acts = under.no_acts;
   look_is = under.look_is;
   only_creates = under.only_creates;
-  has_one = under.has_one;
-  has_no_more = under.has_no_more;
 }
 
 mirror_calm : (terms : Terms) (d : Doing) (t : Session) (b : Bool) → IsMirror terms d t → IsMirror terms (calm b d) (calmed b t)
@@ -55,7 +54,7 @@ mirror_calm terms d t b mirror = record {
     closed_is = mirror.outline.closed_is;
     wants_is = ap (λ (o : Option Want). cond b None o) mirror.outline.wants_is;
   };
-  underway = λ block is. calm_underway terms d b block t.looked (mirror.underway block is);
+  underway = λ block is. calm_underway terms d b block t.done t.left t.looked (mirror.underway block is);
 }
 
 -- locks that are granted leave what a session is doing, but that it waits

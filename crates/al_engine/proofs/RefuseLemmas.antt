@@ -67,7 +67,7 @@ module _ (terms : Terms) (p : Parts) (j : Kept) (s block : ℕ) (t : Session) (c
   a = record { journal = j; sessions = p.sessions; tables = p.tables; locks = p.locks; committed = p.committed; weight = p.weight }
 
   refuse_may : MayCome terms old (Refuse s cause)
-  refuse_may = comes_refuse terms old s (doing old s) amid.sound.legal refl can.settled cause can.first_true can.follows
+  refuse_may = comes_refuse terms old s (doing old s) amid.sound.legal refl can.settled cause can.first_true can.follows can.timely
 
   amid_refused : IsAmid terms a s (used_by cause + 1)
   amid_refused = amid_notes terms p a s (used_by cause) t (Refuse s cause) amid there (still_refuse s cause) refl refuse_may noted noted_room refl refl refl refl refl
@@ -108,7 +108,7 @@ module _ (terms : Terms) (p : Parts) (j : Kept) (s block : ℕ) (t : Session) (c
     owes_abort = owes_refused ∙ rw own refl
 
     abort_may : MayCome terms (past_of j) (Abort x)
-    abort_may = comes_abort terms (past_of j) s (broken (doing old s) (length old) t.xact) amid_refused.sound.legal state_refused settled_refused x by (inl (inl refl)) (rw owes_abort refl)
+    abort_may = comes_abort terms (past_of j) s (broken (doing old s) (length old) t.xact) amid_refused.sound.legal state_refused settled_refused x by (inl (inl refl)) (rw owes_abort refl) (rw (can.hand_is, busy, owes_abort) refl)
 
     module _ (m : Parts) (a_noted : past_of m.journal ≡ locked_by (xact_in p.sessions) m.locks.locks.granted (Abort x ∷ past_of j)) (a_room : m.journal.room + length m.locks.locks.granted + 1 ≡ j.room) (a_woke : m.sessions ≡ woken m.locks.locks.granted p.sessions) (a_tables : m.tables ≡ p.tables) (a_count : m.locks.sessions ≡ p.locks.sessions) (a_committed : m.committed ≡ p.committed) (a_settled : IsSettled m.locks.locks) (a_hands : HandsOn (released p.locks.locks s) m.locks.locks) (a_weight : m.weight ≡ p.weight) where
       come : HaveCome terms (xact_in p.sessions) m.locks.locks.granted (Abort x ∷ past_of j) m.locks.locks
@@ -166,7 +166,7 @@ refused_seat t b = record t { hand = None; xact = None; block = b; looked = fals
 
 module _ (terms : Terms) (old : Past) (m q : Parts) (s block : ℕ) (t : Session) (cause : Cause) (b : Block) (r : IsRefusing terms old m s t cause) (can : CanBeRefused terms old s t cause) (busy : t.hand ≡ Some block) (fails : state_of b ≡ failed_at (length old) (state_of t.block)) (e_noted : past_of q.journal ≡ End s ∷ past_of m.journal) (e_room : q.journal.room + 1 ≡ m.journal.room) (e_set : q.sessions ≡ slice_set m.sessions s (refused_seat t b)) (e_tables : q.tables ≡ m.tables) (e_locks : q.locks ≡ m.locks) (e_committed : q.committed ≡ m.committed) (e_weight : q.weight ≡ m.weight) where
   ends_may : MayCome terms (past_of m.journal) (End s)
-  ends_may = comes_end terms (past_of m.journal) s (broken (doing old s) (length old) None) r.amid.sound.legal r.state r.settled block (can.hand_is ∙ busy) (inr refl) (none_implicit (failed_at (length old) (block_state old s))) (rw r.owes refl)
+  ends_may = comes_end terms (past_of m.journal) s (broken (doing old s) (length old) None) r.amid.sound.legal r.state r.settled block (can.hand_is ∙ busy) (inr refl) (none_implicit (failed_at (length old) (block_state old s))) (rw r.owes refl) (rw r.owes refl)
 
   own_mirror : IsMirror terms (doing (End s ∷ past_of m.journal) s) (refused_seat t b)
   own_mirror =

@@ -30,21 +30,22 @@ use Rattle.al_history.proofs.Xacts.{xact_is, turn}
 use Rattle.al_engine.specs.declared.sessions.Session.{Session}
 use Rattle.al_engine.specs.Kept.{Parts, IsAmid, IsClear, IsKept, CanBeDone, CanBeRefused, over_by}
 use Rattle.al_engine.specs.LockTie.{asks, IsTied}
-use Rattle.al_engine.specs.Sessions.{IsMirror, IsUnderway, IsOutlined, MakesTable, state_of}
+use Rattle.al_engine.specs.Sessions.{IsMirror, IsUnderway, IsOutlined, MakesTable, state_of, IsCounted}
 use Rattle.al_engine.specs.Stored.{all_kept, seen_by, TellsCommitted}
 use Rattle.al_engine.proofs.FailedBlocks.{open_unfailed}
 use Rattle.al_engine.proofs.StoredLemmas.{latest_kept}
 use Rattle.al_engine.proofs.Wanted.{free_asks}
+use Rattle.al_history.proofs.Implicit.{unfaulted}
 
-in_step_by : (terms : Terms) (statement : Statement) (o : Option ℕ) → statement_of terms o 0 ≡ Some statement → IsSome o
-in_step_by terms statement None is = absurd cc
-in_step_by terms statement (Some block) is = refl
+in_step_by : (terms : Terms) (statement : Statement) (o : Option ℕ) (n : ℕ) → statement_of terms o n ≡ Some statement → IsSome o
+in_step_by terms statement None n is = absurd cc
+in_step_by terms statement (Some block) n is = refl
 
 -- ---- what is known of it
 
 -- what a session is doing whose statement in hand has done nothing yet
 abbrev pub at_work : Session → ℕ → Option Past → Doing
-at_work t x look = record { hand = t.hand; dones = 0; refused = false; xact = Some x; look = look; acts = []; block = state_of t.block; closed = t.closed; wants = t.wants }
+at_work t x look = record { hand = t.hand; dones = t.done; refused = false; xact = Some x; look = look; acts = []; block = state_of t.block; closed = t.closed; wants = t.wants }
 
 -- the statement in hand of an open transaction, with this Look, has done nothing yet, and nothing is owed
 pub record Works (terms : Terms) (past : Past) (s : ℕ) (t : Session) (x : ℕ) (statement : Statement) (look : Option Past) : Type 0 where
@@ -54,8 +55,8 @@ pub record Works (terms : Terms) (past : Past) (s : ℕ) (t : Session) (x : ℕ)
   pub doing_is : doing past s ≡ at_work t x look
   pub by : IsXact past s x
   pub in_xact : t.xact ≡ Some x
-  pub statement_is : statement_of terms t.hand 0 ≡ Some statement
-  pub last : statement_of terms t.hand 1 ≡ None
+  pub statement_is : statement_of terms t.hand t.done ≡ Some statement
+  pub counted : (block : ℕ) → t.hand ≡ Some block → IsCounted terms block t.done t.left
   pub unfailed : block_cause (state_of t.block) statement ≡ None
 
 same_doing : (a b : Doing) → a.hand ≡ b.hand → a.dones ≡ b.dones → a.refused ≡ b.refused → a.xact ≡ b.xact → a.look ≡ b.look → a.acts ≡ b.acts → a.block ≡ b.block → a.closed ≡ b.closed → a.wants ≡ b.wants → a ≡ b
@@ -67,27 +68,29 @@ block_clear past s OpenBlock statement is never = refl
 block_clear past s (FailedBlock r) statement is never = absurd (never r is)
 
 -- between two calls
-module _ (terms : Terms) (p : Parts) (s : ℕ) (t : Session) (x : ℕ) (statement : Statement) (kept : IsKept terms p) (seat : slice_get p.sessions s ≡ Some t) (in_xact : t.xact ≡ Some x) (statement_is : statement_of terms t.hand 0 ≡ Some statement) where
+module _ (terms : Terms) (p : Parts) (s : ℕ) (t : Session) (x : ℕ) (statement : Statement) (kept : IsKept terms p) (seat : slice_get p.sessions s ≡ Some t) (in_xact : t.xact ≡ Some x) (statement_is : statement_of terms t.hand t.done ≡ Some statement) where
   mirror : IsMirror terms (doing (past_of p.journal) s) t
   mirror = kept.mirrors s t seat
 
   pub works_for : (o : Option ℕ) → t.hand ≡ o → Works terms (past_of p.journal) s t x statement (doing (past_of p.journal) s).look
   works_for None idle = absurd (let wrong : ◌≡◌ {A = Option Statement} None (Some statement) = rw idle at statement_is in cc)
   works_for (Some block) busy =
-      let u : IsUnderway terms (doing (past_of p.journal) s) block t.looked = mirror.underway block busy in
+      let u : IsUnderway terms (doing (past_of p.journal) s) block t.done t.left t.looked = mirror.underway block busy in
       let o : IsOutlined (doing (past_of p.journal) s) t = mirror.outline in
       let own = xact_is terms (past_of p.journal) s x kept.sound.legal (o.xact_is ∙ in_xact) in
       record {
         legal = kept.sound.legal;
         settled = kept.clear.settled;
         owed_is = kept.clear.owed_is;
-        doing_is = same_doing (doing (past_of p.journal) s) (at_work t x (doing (past_of p.journal) s).look) o.hand_is u.none_done u.none_refused (o.xact_is ∙ in_xact) refl u.no_acts o.block_is o.closed_is o.wants_is;
+        doing_is = same_doing (doing (past_of p.journal) s) (at_work t x (doing (past_of p.journal) s).look) o.hand_is u.dones_is u.none_refused (o.xact_is ∙ in_xact) refl u.no_acts o.block_is o.closed_is o.wants_is;
         by = record { session = own.own; open_xact = o.xact_is ∙ in_xact };
         in_xact = in_xact;
         statement_is = statement_is;
-        last = rw busy u.has_no_more;
+        counted = λ b is. counted_by b is u.counted;
         unfailed = block_clear (past_of p.journal) s (state_of t.block) statement o.block_is (λ r failed. open_unfailed terms (past_of p.journal) s x r kept.sound.legal kept.clear.owed_is (o.xact_is ∙ in_xact) failed);
-      }
+      } where
+        counted_by : (b : ℕ) → t.hand ≡ Some b → IsCounted terms block t.done t.left → IsCounted terms b t.done t.left
+        counted_by b is counted = let same : block ≡ b = cc in rw (← same) counted
 
   pub works : Works terms (past_of p.journal) s t x statement (doing (past_of p.journal) s).look
   works = works_for t.hand refl
@@ -98,7 +101,7 @@ module _ (terms : Terms) (p : Parts) (s : ℕ) (t : Session) (x : ℕ) (statemen
 
   only_for : (o : Option ℕ) → t.hand ≡ o → t.looked ≡ true → MakesTable (Some statement)
   only_for None idle looked = absurd (let wrong : ◌≡◌ {A = Option Statement} None (Some statement) = rw idle at statement_is in cc)
-  only_for (Some block) busy looked = subst (λ (o : Option Statement). MakesTable o) (ap (λ (h : Option ℕ). statement_of terms h 0) (sym busy) ∙ statement_is) ((mirror.underway block busy).only_creates looked)
+  only_for (Some block) busy looked = subst (λ (o : Option Statement). MakesTable o) (ap (λ (h : Option ℕ). statement_of terms h t.done) (sym busy) ∙ statement_is) ((mirror.underway block busy).only_creates looked)
 
   -- it has looked just where the session's record says so
   pub look_is : is_some (doing (past_of p.journal) s).look ≡ t.looked
@@ -138,23 +141,24 @@ module _ (terms : Terms) (p : Parts) (s : ℕ) (t : Session) (x : ℕ) (statemen
 module _ (terms : Terms) (past : Past) (s : ℕ) (t : Session) (x : ℕ) (statement : Statement) (look : Option Past) (w : Works terms past s t x statement look) where
   -- the cause for which it has to be refused
   pub cause_so : cause_of terms past s ≡ cause_at terms past x statement [] look
-  cause_so = cause_free terms past s (at_work t x look) w.legal w.doing_is w.settled w.owed_is ∙ rw (w.statement_is, w.unfailed) refl
+  cause_so = cause_free terms past s (at_work t x look) w.legal w.doing_is w.settled w.owed_is ∙ rw (unfaulted terms t.hand t.done statement w.statement_is, w.statement_is, w.unfailed) refl
 
   -- the lock that it lacks
   pub lacking_so : lacking_in terms past s x (at_work t x look) ≡ first_lacking (held past) (need s statement (latest terms past x))
   lacking_so = rw w.statement_is refl
 
   -- it has to be refused
-  pub can_be_refused : (cause : Cause) → cause_at terms past x statement [] look ≡ Some cause → CanBeRefused terms past s t cause
-  can_be_refused cause is = record {
+  pub can_be_refused : can_go_on past s ≡ true → (cause : Cause) → cause_at terms past x statement [] look ≡ Some cause → CanBeRefused terms past s t cause
+  can_be_refused can cause is = record {
     hand_is = ap (λ (d : Doing). d.hand) w.doing_is;
     xact_is = ap (λ (d : Doing). d.xact) w.doing_is ∙ sym w.in_xact;
     block_is = ap (λ (d : Doing). d.block) w.doing_is;
     closed_is = ap (λ (d : Doing). d.closed) w.doing_is;
-    in_step = in_step_by terms statement t.hand w.statement_is;
+    in_step = in_step_by terms statement t.hand t.done w.statement_is;
     first_true = cause_so ∙ is;
     settled = w.settled;
     follows = rw w.owed_is tt;
+    timely = rw w.owed_is can;
   }
 
   -- nobody blocks it, so its next entry may weigh what is left
@@ -168,7 +172,7 @@ module _ (terms : Terms) (past : Past) (s : ℕ) (t : Session) (x : ℕ) (statem
   -- it can go on after an entry that ends nothing and asks for nothing
   pub goes_after : (e : Entry) → IsBy past s e → (moved past e (at_work t x look)).hand ≡ t.hand → (moved past e (at_work t x look)).wants ≡ None → is_settled (e ∷ past) ≡ true → MayCome terms past e → can_go_on (e ∷ past) s ≡ true
   goes_after e by hand_same free settled comes = by_hand t.hand w.statement_is refl where
-    by_hand : (o : Option ℕ) → statement_of terms o 0 ≡ Some statement → t.hand ≡ o → can_go_on (e ∷ past) s ≡ true
+    by_hand : (o : Option ℕ) → statement_of terms o t.done ≡ Some statement → t.hand ≡ o → can_go_on (e ∷ past) s ≡ true
     by_hand None is busy = absurd cc
     by_hand (Some block) is busy = goes terms (e ∷ past) s (moved past e (at_work t x look)) (comes, w.legal) (own_moves past s e by ∙ ap (moved past e) w.doing_is) settled block (hand_same ∙ busy) free
 
@@ -178,8 +182,8 @@ fits_by terms past next cause is = sym is
 
 -- the Look
 module _ (terms : Terms) (past : Past) (s : ℕ) (t : Session) (x : ℕ) (statement : Statement) (w : Works terms past s t x statement None) where
-  pub look_may : has_place statement ≡ true → first_lacking (held past) (need s statement (latest terms past x)) ≡ None → cause_at terms past x statement [] None ≡ None → MayCome terms past (Look x)
-  look_may placed locked free = comes_look terms past s (at_work t x None) w.legal w.doing_is w.settled x w.by statement w.statement_is placed refl (lacking_so terms past s t x statement None w ∙ locked) (cause_so terms past s t x statement None w ∙ free) w.owed_is
+  pub look_may : has_place statement ≡ true → first_lacking (held past) (need s statement (latest terms past x)) ≡ None → cause_at terms past x statement [] None ≡ None → can_go_on past s ≡ true → MayCome terms past (Look x)
+  look_may placed locked free can = comes_look terms past s (at_work t x None) w.legal w.doing_is w.settled x w.by statement w.statement_is placed refl (lacking_so terms past s t x statement None w ∙ locked) (cause_so terms past s t x statement None w ∙ free) w.owed_is can
 
   pub looks : MayCome terms past (Look x) → Works terms (Look x ∷ past) s (record t { wants = None }) x statement (Some past)
   looks comes = record {
@@ -190,7 +194,7 @@ module _ (terms : Terms) (past : Past) (s : ℕ) (t : Session) (x : ℕ) (statem
     by = record { session = w.by.session; open_xact = w.by.open_xact };
     in_xact = w.in_xact;
     statement_is = w.statement_is;
-    last = w.last;
+    counted = w.counted;
     unfailed = w.unfailed;
   }
 
@@ -206,8 +210,8 @@ module _ (terms : Terms) (past : Past) (s : ℕ) (t : Session) (x : ℕ) (statem
   acted_goes settled comes = goes_after terms past s t x statement look w e by (ap (λ (d : Doing). d.hand) (acts (at_work t x look))) (ap (λ (d : Doing). d.wants) (acts (at_work t x look))) settled comes
 
   -- it can be done then
-  pub can_be_done : (reply : Reply) → Answers (Some statement) (length past ∷ []) (Some x) (state_of t.block) reply → block_after reply (state_of t.block) ≡ state_of t.block → CanBeDone terms (e ∷ past) s t reply
-  can_be_done reply answers keeps = record {
+  pub can_be_done : can_go_on (e ∷ past) s ≡ true → (reply : Reply) → Answers (Some statement) (length past ∷ []) (Some x) (state_of t.block) reply → block_after reply (state_of t.block) ≡ state_of t.block → CanBeDone terms (e ∷ past) s t reply
+  can_be_done can reply answers keeps = record {
     outline = record {
       hand_is = ap (λ (d : Doing). d.hand) moves_so;
       xact_is = ap (λ (d : Doing). d.xact) moves_so ∙ sym w.in_xact;
@@ -215,13 +219,14 @@ module _ (terms : Terms) (past : Past) (s : ℕ) (t : Session) (x : ℕ) (statem
       closed_is = ap (λ (d : Doing). d.closed) moves_so;
       wants_is = ap (λ (d : Doing). d.wants) moves_so;
     };
-    in_step = in_step_by terms statement t.hand w.statement_is;
+    in_step = in_step_by terms statement t.hand t.done w.statement_is;
     in_xact = rw w.in_xact refl;
-    none_done = ap (λ (d : Doing). d.dones) moves_so;
+    dones_is = ap (λ (d : Doing). d.dones) moves_so;
+    counted = w.counted;
     none_refused = ap (λ (d : Doing). d.refused) moves_so;
     answers = rw (w.statement_is, w.in_xact, acts_so) answers;
     keeps_block = keeps;
-    last = w.last;
+    goes = can;
   } where
     acts_so : (doing (e ∷ past) s).acts ≡ length past ∷ []
     acts_so = ap (λ (d : Doing). d.acts) moves_so
@@ -262,7 +267,6 @@ module _ (terms : Terms) (p q : Parts) (s rows : ℕ) (kept : IsKept terms p) (s
       queues = rw still.locks kept.sound.queues;
       weighed = still.weighed;
       reserved = rw (still.sessions, still.locks) (omega (arith, kept.sound.reserved, still.room));
-      single = kept.sound.single;
     };
     others_want = λ c there other. ap (λ (d : Doing). d.wants) (st.others c.session (turn c.session s other)) ∙ kept.wants_so c (rw still.waiting_same at there);
     others = λ r u other there. rw (st.others r other) (kept.mirrors r u (rw still.sessions at there));
@@ -286,6 +290,8 @@ module _ (terms : Terms) (s : ℕ) (old mid new : Past) where
     closed_same = λ r. went.closed_same r ∙ st.closed_same r;
     driven = went.driven ∙ st.driven;
     failed = λ spec. went.failed spec ∙ st.failed spec;
+    told = λ so. went.told (st.told s ∙ so);
+    left_is = λ spec steps. went.left_is spec steps ∙ st.left_is spec steps;
     one_row = omega (arith, same, st.rows_is, few);
     in_turn = λ least d. went.in_turn (st.least least) (st.in_turn least d);
   }
@@ -302,6 +308,8 @@ module _ (terms : Terms) (s : ℕ) (old mid new : Past) where
     closed_same = λ r. went.closed_same r ∙ st.closed_same r;
     driven = went.driven ∙ st.driven;
     failed = λ spec. went.failed spec ∙ failed_so spec;
+    told = λ so. went.told (st.told s ∙ so);
+    left_is = λ spec steps. went.left_is spec steps ∙ rw (st.left_is spec steps, st.hands s) refl;
     one_row = omega (arith, st.rows_is, went.one_row);
     in_turn = λ least d. went.in_turn (rw st.owed_is (st.least least)) (st.in_turn least d);
   } where

@@ -16,6 +16,7 @@ use Rattle.al_queue.specs.Locks.{Locks}
 use Rattle.al_engine.specs.LockTie.{lock_by, locked_by, locks_of}
 use Rattle.al_engine.proofs.Grants.{HaveCome, driven_then}
 use Rattle.al_engine.proofs.LockLists.{LeavesSo, leaves_so, locked_is, locked_length, grants_of}
+use Rattle.al_history.proofs.Pasts.{if_same}
 
 -- ---- a tail begins
 
@@ -28,6 +29,8 @@ tail_by_done terms s past reply legal none comes = record {
   closed_same = λ r. refl;
   driven = refl;
   failed = λ spec. refl;
+  told = λ so. so;
+  left_is = λ spec steps. refl;
   one_row = omega arith;
   in_turn = λ least driven. (rw none least, driven);
 }
@@ -41,6 +44,8 @@ tail_by_refuse terms s past cause legal comes = record {
   closed_same = λ r. refl;
   driven = refl;
   failed = λ spec. refl;
+  told = λ so. rw (if_same s) refl;
+  left_is = λ spec steps. refl;
   one_row = omega arith;
   in_turn = λ turn driven. (turn, driven);
 }
@@ -69,6 +74,8 @@ tail_granted terms s old mid refused drove turn xact after come tail =
       closed_same = λ r. so.closed_same r ∙ tail.closed_same r;
       driven = so.driven_so ∙ tail.driven;
       failed = λ spec. so.failed spec ∙ tail.failed spec;
+      told = λ un. so.refused_same s ∙ tail.told un;
+      left_is = λ spec steps. so.left_is spec steps ∙ tail.left_is spec steps;
       one_row = omega (arith, rows_granted xact after.granted mid, tail.one_row);
       in_turn = λ its driven. driven_then terms mid xact after come (tail.in_turn its driven);
     }

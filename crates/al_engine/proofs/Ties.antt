@@ -17,9 +17,10 @@ use Rattle.al_history.specs.declared.entry.Want.TheVariants as wants
 use Rattle.al_history.specs.declared.entry.Entry.TheVariants.{Wait, Lock}
 use Rattle.al_history.specs.Past.{Past}
 use Rattle.al_history.specs.Hand.{session_of}
-use Rattle.al_history.specs.Locks.{Claim, claim, without, held, waiting, in_way, ahead, is_settled, is_held, grantable as can_be_granted}
+use Rattle.al_history.specs.Locks.{Claim, claim, without, held, waiting, in_way, ahead, is_settled, is_held, grantable as can_be_granted, same_claim, without_claim}
 use Rattle.al_history.proofs.Xacts.{turn}
 use Rattle.al_engine.specs.LockTie.{grant_of, asks, AreApart, IsTied}
+use Rattle.al_history.proofs.Requests.{AreDistinct}
 
 -- ---- lists
 
@@ -126,12 +127,27 @@ pub holds_push : (past : Past) (locks : Locks) (x : ℕ) (c : Claim) → session
 holds_push past locks x c own tied test = rw (own, map_push (held past) c)
     (omega (arith, sum_by_push (λ (g : Grant). cond (test g) 1 0) locks.held (grant_of c), sum_by_push (λ (g : Grant). cond (test g) 1 0) (map grant_of (held past)) (grant_of c), tied.holds test))
 
+-- a claim of a session that asks for nothing isn't there
+other_claim : (d c : Claim) → (c.session == d.session) ≡ false → same_claim d c ≡ false
+other_claim d c other = rw other refl
+
+pub none_claim : (d : Claim) (claims : List Claim) → asks d.session claims ≡ false → without_claim d claims ≡ claims
+none_claim d [] none = refl
+none_claim d (c ∷ claims) none =
+    let parts = or_parts (c.session == d.session) (asks d.session claims) none in
+    rw (other_claim d c parts.0, none_claim d claims parts.1) refl
+
+-- the laws of journals say of each session that it has one request
+pub distinct_of : (claims : List Claim) → AreApart claims → AreDistinct claims
+distinct_of [] apart = tt
+distinct_of (c ∷ claims) apart = (apart.0, distinct_of claims apart.1)
+
 pub tie_granted : (past : Past) (locks : Locks) (x : ℕ) (c : Claim) → session_of past x ≡ c.session → IsTied past locks → asks c.session (waiting past) ≡ false
     → can_be_granted past c ≡ true → IsTied (Lock x c.table c.mode ∷ past) (asked locks (grant_of c))
 tie_granted past locks x c own tied none can = rw (same_grantable past locks c tied none ∙ can) (record {
-  waits = rw (own, without_none c.session (waiting past) none) tied.waits;
+  waits = rw (own, none_claim c (waiting past) none) tied.waits;
   holds = λ test. holds_push past locks x c own tied test;
-  apart = rw (own, without_none c.session (waiting past) none) tied.apart;
+  apart = rw (own, none_claim c (waiting past) none) tied.apart;
 })
 
 pub tie_queued : (past : Past) (locks : Locks) (x : ℕ) (c : Claim) → session_of past x ≡ c.session → IsTied past locks → asks c.session (waiting past) ≡ false

@@ -1,31 +1,96 @@
 -- A turn that begins or ends a transaction: what is kept then, and what it did.
-use Rattle.std.proofs.Common.{◌≡◌, ℕ, zero, suc, ◌+◌, ◌<◌, ◌≤◌, ◌-◌, List, [], ◌∷◌, ◌++◌, length, refl, ap, true, false, Bool, Option, Some, None, arith, ◌∙◌, inl, inr, slice_get, slice_set, replicate, option_map, append_assoc}
-use Rattle.std.specs.Prelude.{◌==◌, ◌&&◌, ◌⊎◌, not, is_some, IsSome}
+use Rattle.std.proofs.Common.{◌≡◌, ℕ, zero, suc, ◌+◌, ◌<◌, ◌≤◌, ◌-◌, List, [], ◌∷◌, ◌++◌, length, refl, ap, true, false, Bool, Option, Some, None, arith, ◌∙◌, inl, inr, slice_get, slice_set, replicate, option_map, append_assoc, cond, sym}
+use Rattle.std.specs.Prelude.{◌==◌, ◌&&◌, ◌⊎◌, not, is_some, IsSome, option_and_then, Result, Ok, Err}
 use Rattle.std.proofs.lemmas.Bool.{ne_eqb}
 use Rattle.std.proofs.lemmas.List.{append-nil, length-append, length-replicate}
 use Rattle.std.proofs.lemmas.Option.{slice_get_within}
 use Rattle.al_modes.specs.declared.level.Level.TheVariants as levels
 use Rattle.al_history.specs.declared.entry.Entry.{Entry}
-use Rattle.al_history.specs.declared.entry.Entry.TheVariants.{Start}
+use Rattle.al_history.specs.declared.entry.Entry.TheVariants.{Start, Give, End}
 use Rattle.al_history.specs.declared.statement.Terms.{Terms}
+use Rattle.al_history.specs.declared.statement.SqlFault.{SqlFault}
+use Rattle.al_history.specs.declared.statement.ScriptBlock.{ScriptBlock}
+use Rattle.al_history.specs.declared.statement.Statement.{Statement}
 use Rattle.al_history.specs.Past.{Past, past_of}
-use Rattle.al_history.specs.Hand.{hand, statement_of}
+use Rattle.al_history.specs.Hand.{hand, statement_of, BlockState, statement_in}
 use Rattle.al_history.specs.Locks.{waiting}
 use Rattle.al_history.specs.Waits.{is_blocked, can_go_on}
 use Rattle.al_history.specs.Rules.{starts}
-use Rattle.al_history.specs.Legal.{MayCome}
+use Rattle.al_history.specs.Legal.{MayCome, Legal}
 use Rattle.al_history.specs.Whole.{driver, IsLeast}
 use Rattle.al_history.proofs.Doings.{doing, moved, own_moves, others_stay}
 use Rattle.al_history.proofs.Comes.{comes, goes}
 use Rattle.al_history.proofs.Turns.{Went, stage_begins, stage_on, stage_went, step_start}
 use Rattle.al_engine.specs.declared.sessions.Session.{Session}
 use Rattle.al_engine.specs.LockTie.{asks}
-use Rattle.al_engine.specs.Sessions.{IsUnderway, IsOutlined, IsMirror, state_of, light_of, light}
+use Rattle.al_engine.specs.Sessions.{IsUnderway, IsOutlined, IsMirror, state_of, light_of, light, IsCounted, length_in, length_at, script_length}
 use Rattle.al_engine.specs.Stored.{TellsCommitted}
 use Rattle.al_engine.specs.Kept.{Parts, IsSound, IsKept}
 use Rattle.al_engine.proofs.SessionLemmas.{light_at, light_set, got_set, length_set}
 use Rattle.al_engine.proofs.StoredLemmas.{tells_push}
 use Rattle.al_engine.proofs.Wanted.{free_asks, others_still, wants_all}
+
+-- ---- blocks
+
+slice_get_beyond : {A : Type 0} (xs : List A) (n : ℕ) → length xs ≤ n → slice_get xs n ≡ None
+slice_get_beyond [] n le = refl
+slice_get_beyond (x ∷ xs) zero le = absurd (omega arith)
+slice_get_beyond (x ∷ xs) (suc n) le = slice_get_beyond xs n (omega arith)
+
+slice_get_some : {A : Type 0} (xs : List A) (n : ℕ) → n < length xs → IsSome (slice_get xs n)
+slice_get_some [] n lt = absurd (omega arith)
+slice_get_some (x ∷ xs) zero lt = refl
+slice_get_some (x ∷ xs) (suc n) lt = slice_get_some xs n (omega arith)
+
+-- a statement that is there is among those of its script
+within_in : (script : Result (List Statement) SqlFault) (n : ℕ) (statement : Statement) → statement_in script n ≡ Some statement → n < length_in script
+within_in (Ok script) n statement is = slice_get_within script n statement is
+within_in (Err fault) n statement is = absurd cc
+
+pub statement_within : (terms : Terms) (block n : ℕ) (statement : Statement) → statement_of terms (Some block) n ≡ Some statement → n < script_length terms block
+statement_within terms block n statement is = by_block (slice_get terms.scripts.blocks block) is where
+  by_block : (o : Option ScriptBlock) → option_and_then (λ (b : ScriptBlock). statement_in b.script n) o ≡ Some statement → n < length_at o
+  by_block None is = absurd cc
+  by_block (Some b) is = within_in b.script n statement is
+
+-- past its end there is none
+beyond_in : (script : Result (List Statement) SqlFault) (n : ℕ) → length_in script ≤ n → statement_in script n ≡ None
+beyond_in (Ok script) n le = slice_get_beyond script n le
+beyond_in (Err fault) n le = refl
+
+pub statement_beyond : (terms : Terms) (block n : ℕ) → script_length terms block ≤ n → statement_of terms (Some block) n ≡ None
+statement_beyond terms block n le = by_block (slice_get terms.scripts.blocks block) le where
+  by_block : (o : Option ScriptBlock) → length_at o ≤ n → option_and_then (λ (b : ScriptBlock). statement_in b.script n) o ≡ None
+  by_block None le = refl
+  by_block (Some b) le = beyond_in b.script n le
+
+-- before it there is one
+some_in : (script : Result (List Statement) SqlFault) (n : ℕ) → n < length_in script → IsSome (statement_in script n)
+some_in (Ok script) n lt = slice_get_some script n lt
+some_in (Err fault) n lt = absurd (omega arith)
+
+pub statement_some : (terms : Terms) (block n : ℕ) → n < script_length terms block → IsSome (statement_of terms (Some block) n)
+statement_some terms block n lt = by_block (slice_get terms.scripts.blocks block) lt where
+  by_block : (o : Option ScriptBlock) → n < length_at o → IsSome (option_and_then (λ (b : ScriptBlock). statement_in b.script n) o)
+  by_block None lt = absurd (omega arith)
+  by_block (Some b) lt = some_in b.script n lt
+
+-- a block that was given is there
+pub given_there : (terms : Terms) (past : Past) (s block : ℕ) → Legal terms past → hand past s ≡ Some block → IsSome (slice_get terms.scripts.blocks block)
+given_there terms [] s block legal is = absurd cc
+given_there terms (Give r given ∷ past) s block legal is = by_test (r == s) is (λ h. given_there terms past s block legal.1 h) where
+  known : (o : Option ScriptBlock) → option_map (λ (b : ScriptBlock). b.session) o ≡ Some r → IsSome o
+  known None e = absurd cc
+  known (Some b) e = refl
+
+  by_test : (b : Bool) → cond b (Some given) (hand past s) ≡ Some block → (hand past s ≡ Some block → IsSome (slice_get terms.scripts.blocks block)) → IsSome (slice_get terms.scripts.blocks block)
+  by_test true is more = let same : given ≡ block = cc in rw (← same) (known (slice_get terms.scripts.blocks given) legal.0.rule.of_session)
+  by_test false is more = more is
+given_there terms (End r ∷ past) s block legal is = by_test (r == s) is (λ h. given_there terms past s block legal.1 h) where
+  by_test : (b : Bool) → cond b None (hand past s) ≡ Some block → (hand past s ≡ Some block → IsSome (slice_get terms.scripts.blocks block)) → IsSome (slice_get terms.scripts.blocks block)
+  by_test true is more = absurd cc
+  by_test false is more = more is
+given_there terms (e ∷ past) s block legal is = given_there terms past s block legal.1 is
 
 -- ---- a session that can go on
 
@@ -34,7 +99,7 @@ pub record IsGoing (terms : Terms) (past : Past) (s : ℕ) (seat : Session) : Ty
   pub block : ℕ
   pub busy : seat.hand ≡ Some block
   pub outline : IsOutlined (doing past s) seat
-  pub under : IsUnderway terms (doing past s) block seat.looked
+  pub under : IsUnderway terms (doing past s) block seat.done seat.left seat.looked
   pub free : asks s (waiting past) ≡ false
 
 and_both : (a b : Bool) → (a && b) ≡ true → (a ≡ true) × (b ≡ true)
@@ -68,10 +133,18 @@ reached committed n = omega (arith, length-append committed (replicate (n - leng
 abbrev begun : ℕ → Session → Session
 begun x seat = record seat { xact = Some x; wants = None }
 
-light_begins : (x : ℕ) (seat : Session) (block : ℕ) → seat.hand ≡ Some block → seat.xact ≡ None → light_of (begun x seat) + 1 ≡ light_of seat
-light_begins x seat block busy none = rw (busy, none) (omega arith)
+light_begins : (x : ℕ) (seat : Session) (block : ℕ) → seat.hand ≡ Some block → seat.xact ≡ None → 0 < seat.left → light_of (begun x seat) + 1 ≡ light_of seat
+light_begins x seat block busy none some = rw (busy, none) (omega arith)
 
-module _ (terms : Terms) (p : Parts) (s x : ℕ) (seat : Session) (kept : IsKept terms p) (there : slice_get p.sessions s ≡ Some seat) (can : can_go_on (past_of p.journal) s ≡ true) (needs : option_map (starts (state_of seat.block)) (statement_of terms seat.hand 0) ≡ Some true) (none_open : seat.xact ≡ None) where
+-- a statement that is in hand is left
+pub some_left : (terms : Terms) (block done left : ℕ) (statement : Statement) → IsCounted terms block done left → statement_of terms (Some block) done ≡ Some statement → 0 < left
+some_left terms block done left statement counted is = let lt : done < script_length terms block = statement_within terms block done statement is in omega (arith, counted.all)
+
+starting : (state : BlockState) (o : Option Statement) → option_map (starts state) o ≡ Some true → (statement : Statement) × (o ≡ Some statement)
+starting state None is = absurd cc
+starting state (Some statement) is = (statement, refl)
+
+module _ (terms : Terms) (p : Parts) (s x : ℕ) (seat : Session) (kept : IsKept terms p) (there : slice_get p.sessions s ≡ Some seat) (can : can_go_on (past_of p.journal) s ≡ true) (needs : option_map (starts (state_of seat.block)) (statement_of terms seat.hand seat.done) ≡ Some true) (none_open : seat.xact ≡ None) where
   abbrev old : Past
   old = past_of p.journal
 
@@ -81,16 +154,23 @@ module _ (terms : Terms) (p : Parts) (s x : ℕ) (seat : Session) (kept : IsKept
   going_so : IsGoing terms old s seat
   going_so = going terms p s seat kept there can
 
+  begins_some : 0 < seat.left
+  begins_some =
+      let g : IsGoing terms old s seat = going_so in
+      let there_is = starting (state_of seat.block) (statement_of terms seat.hand seat.done) needs in
+      some_left terms g.block seat.done seat.left there_is.0 g.under.counted (ap (λ (h : Option ℕ). statement_of terms h seat.done) (sym g.busy) ∙ there_is.1)
+
   pub begins_room : 0 < p.journal.room
   begins_room =
       let g : IsGoing terms old s seat = going_so in
+      let some : 0 < seat.left = begins_some in
       let reserved : light p.sessions + length p.locks.locks.waiting ≤ p.journal.room + 0 = kept.sound.reserved in
-      omega (arith, reserved, light_at p.sessions s seat there, light_begins x seat g.block g.busy none_open)
+      omega (arith, reserved, light_at p.sessions s seat there, light_begins x seat g.block g.busy none_open some)
 
   start_comes : MayCome terms old e
   start_comes =
       let g : IsGoing terms old s seat = going_so in
-      comes terms old kept.sound.legal kept.clear.settled e (record { statement = rw (g.outline.block_is, g.outline.hand_is, g.under.none_done) needs; none_open = g.outline.xact_is ∙ none_open; read_committed = refl }) (rw kept.clear.owed_is tt)
+      comes terms old kept.sound.legal kept.clear.settled e (record { statement = rw (g.outline.block_is, g.outline.hand_is, g.under.dones_is) needs; none_open = g.outline.xact_is ∙ none_open; read_committed = refl }) (rw kept.clear.owed_is tt) (rw kept.clear.owed_is can)
 
   own_begins : doing (e ∷ old) s ≡ moved old e (doing old s)
   own_begins = own_moves old s e refl
@@ -132,7 +212,7 @@ module _ (terms : Terms) (p : Parts) (s x : ℕ) (seat : Session) (kept : IsKept
           let was : IsMirror terms (doing old s) seat = kept.mirrors s seat there in
           rw (own_begins, at) (record {
             outline = record { hand_is = was.outline.hand_is; xact_is = refl; block_is = was.outline.block_is; closed_is = was.outline.closed_is; wants_is = refl };
-            underway = λ block busy. let u : IsUnderway terms (doing old s) block seat.looked = was.underway block busy in record { none_done = u.none_done; none_refused = u.none_refused; no_acts = u.no_acts; look_is = u.look_is; only_creates = u.only_creates; has_one = u.has_one; has_no_more = u.has_no_more };
+            underway = λ block busy. let u : IsUnderway terms (doing old s) block seat.done seat.left seat.looked = was.underway block busy in record { dones_is = u.dones_is; counted = u.counted; none_refused = u.none_refused; no_acts = u.no_acts; look_is = u.look_is; only_creates = u.only_creates };
           })
 
       by_place : ((s ≡ r) × (begun x seat ≡ t)) ⊎ (((s == r) ≡ false) × (slice_get p.sessions r ≡ Some t)) → IsMirror terms (doing (e ∷ old) r) t
@@ -144,7 +224,7 @@ module _ (terms : Terms) (p : Parts) (s x : ℕ) (seat : Session) (kept : IsKept
         let g : IsGoing terms old s seat = going_so in
         let reserved : light p.sessions + length p.locks.locks.waiting ≤ p.journal.room + 0 = kept.sound.reserved in
         let set : light q.sessions + light_of seat ≡ light p.sessions + light_of (begun x seat) = rw sessions (light_set p.sessions s seat (begun x seat) there) in
-        let less : light_of (begun x seat) + 1 ≡ light_of seat = light_begins x seat g.block g.busy none_open in
+        let less : light_of (begun x seat) + 1 ≡ light_of seat = light_begins x seat g.block g.busy none_open begins_some in
         rw locks (omega (arith, reserved, set, less, room))
 
     sound_so : IsSound terms q 0
@@ -160,7 +240,6 @@ module _ (terms : Terms) (p : Parts) (s x : ℕ) (seat : Session) (kept : IsKept
       queues = rw locks kept.sound.queues;
       weighed = rw noted (weight_same ∙ kept.sound.weighed);
       reserved = reserved_so;
-      single = kept.sound.single;
     }
 
     pub begins_kept : IsKept terms q
@@ -175,5 +254,9 @@ module _ (terms : Terms) (p : Parts) (s x : ℕ) (seat : Session) (kept : IsKept
 
 -- ---- whose statement is in hand
 
-pub statement_there : (terms : Terms) (p : Parts) (s : ℕ) (seat : Session) → IsKept terms p → slice_get p.sessions s ≡ Some seat → can_go_on (past_of p.journal) s ≡ true → IsSome (statement_of terms seat.hand 0)
-statement_there terms p s seat kept there can = let g : IsGoing terms (past_of p.journal) s seat = going terms p s seat kept there can in rw g.busy g.under.has_one
+-- its step is of one of the blocks
+pub block_there : (terms : Terms) (p : Parts) (s : ℕ) (seat : Session) → IsKept terms p → slice_get p.sessions s ≡ Some seat → can_go_on (past_of p.journal) s ≡ true → IsSome (option_and_then (λ (block : ℕ). slice_get terms.scripts.blocks block) seat.hand)
+block_there terms p s seat kept there can =
+    let g : IsGoing terms (past_of p.journal) s seat = going terms p s seat kept there can in
+    let busy : hand (past_of p.journal) s ≡ Some g.block = g.outline.hand_is ∙ g.busy in
+    rw g.busy (given_there terms (past_of p.journal) s g.block kept.sound.legal busy)

@@ -18,7 +18,7 @@ use Rattle.al_history.specs.Locks.{Claim, held, is_held}
 use Rattle.al_history.specs.Need.{has_place, lock_of, need, first_lacking, lacking, name_taker}
 use Rattle.al_history.specs.Waits.{is_blocked, can_go_on}
 use Rattle.al_history.specs.View.{latest}
-use Rattle.al_history.specs.Cause.{used_name, name_cause, look_cause, weight_before, weight_after, first_of, over, limit_cause, cause_at}
+use Rattle.al_history.specs.Cause.{used_name, name_cause, look_cause, weight_before, weight_after, first_of, over, limit_cause, cause_at, tables_cause, tables_made}
 use Rattle.al_history.specs.Store.{shown_table, shown}
 use Rattle.al_history.specs.Rules.{ActRule}
 use Rattle.al_history.specs.Legal.{MayCome}
@@ -34,6 +34,7 @@ use Rattle.al_history.proofs.Unblocked.{goes_unblocked}
 use Rattle.al_engine.proofs.StatementLemmas.{limit_so, goes_after, at_work, Works, works_first, unlooked, latest_is, cause_so, lacking_so, can_be_refused, act_may, look_may, looks, stage_looks, StaysBut, amid_after}
 use Rattle.al_engine.proofs.StoredLemmas.{named_there}
 use Rattle.al_engine.proofs.Ties.{same_holds}
+use Rattle.al_engine.specs.Sessions.{MakesTable}
 
 -- a machine whose statement in hand has acted, after so many entries of a row
 pub record HasActed (terms : Terms) (p q : Parts) (s : ℕ) (t : Session) (reply : Reply) (rows : ℕ) : Type 0 where
@@ -50,12 +51,17 @@ pub record HasFailed (terms : Terms) (p q : Parts) (s : ℕ) (t : Session) (caus
   pub stage : Stage terms s (past_of p.journal) (past_of q.journal) 0
   pub more : length (past_of p.journal) ≤ length (past_of q.journal)
 
+-- what is no CREATE TABLE makes no table
+makes_none : (statement : Statement) (taker : Option ℕ) (made : ℕ) → (MakesTable (Some statement) → ⊥) → tables_cause statement [] taker made ≡ None
+makes_none (statements.CreateTable name columns) taker made other = absurd (other tt)
+makes_none statement taker made other = refl
+
 -- what is kept of a session's wait says nothing of how its statement ends
 pub done_still : (terms : Terms) (past : Past) (s : ℕ) (t : Session) (reply : Reply) → CanBeDone terms past s (record t { wants = None }) reply → CanBeDone terms past s t reply
-done_still terms past s t reply d = record { outline = d.outline; in_step = d.in_step; in_xact = d.in_xact; none_done = d.none_done; none_refused = d.none_refused; answers = d.answers; keeps_block = d.keeps_block; last = d.last }
+done_still terms past s t reply d = record { outline = d.outline; in_step = d.in_step; in_xact = d.in_xact; dones_is = d.dones_is; counted = d.counted; none_refused = d.none_refused; answers = d.answers; keeps_block = d.keeps_block; goes = d.goes }
 
 pub refused_still : (terms : Terms) (past : Past) (s : ℕ) (t : Session) (cause : Cause) → CanBeRefused terms past s (record t { wants = None }) cause → CanBeRefused terms past s t cause
-refused_still terms past s t cause r = record { hand_is = r.hand_is; xact_is = r.xact_is; block_is = r.block_is; closed_is = r.closed_is; in_step = r.in_step; first_true = r.first_true; settled = r.settled; follows = r.follows }
+refused_still terms past s t cause r = record { hand_is = r.hand_is; xact_is = r.xact_is; block_is = r.block_is; closed_is = r.closed_is; in_step = r.in_step; first_true = r.first_true; settled = r.settled; follows = r.follows; timely = r.timely }
 
 -- what was found at a place of the tables
 pub found_of : (p : Parts) (x : ℕ) (name : List ℕ) (tables : List StoredTable) (committed : List Bool) (at : ℕ) → tables ≡ p.tables → committed ≡ p.committed → option_map (λ (v : StoredTable). shown_table (seen_by (Some x) committed) (kept_of v)) (slice_get tables at) ≡ named (shown (seen_by (Some x) committed) (all_kept tables)) name → option_map (λ (v : StoredTable). shown_table (seen_by (Some x) p.committed) (kept_of v)) (slice_get p.tables at) ≡ named (shown (seen_by (Some x) p.committed) (all_kept p.tables)) name
@@ -130,7 +136,7 @@ module _ (terms : Terms) (p : Parts) (s : ℕ) (t : Session) (x : ℕ) (statemen
 
   -- it isn't there
   pub missing : named (shown (seen_by (Some x) p.committed) (all_kept p.tables)) name ≡ None → CanBeRefused terms (past_of p.journal) s t (causes.NoTable name)
-  missing none = can_be_refused terms (past_of p.journal) s t x statement None first_works (causes.NoTable name) (ap (λ (o : Option Cause). first_of o (limit_cause terms (past_of p.journal) x (weight_before (past_of p.journal) (has_place statement) (lacking terms (past_of p.journal) x)))) (u.names (latest terms (past_of p.journal) x) ∙ missing_so (named (latest terms (past_of p.journal) x) name) (named_so None none))) where
+  missing none = can_be_refused terms (past_of p.journal) s t x statement None first_works u.goes (causes.NoTable name) (ap (λ (o : Option Cause). first_of o (limit_cause terms (past_of p.journal) x (weight_before (past_of p.journal) (has_place statement) (lacking terms (past_of p.journal) x)))) (u.names (latest terms (past_of p.journal) x) ∙ missing_so (named (latest terms (past_of p.journal) x) name) (named_so None none))) where
     missing_so : (o : Option Table) → o ≡ None → cond (is_some o) None (Some (causes.NoTable name)) ≡ Some (causes.NoTable name)
     missing_so o none = rw none refl
 
@@ -181,11 +187,11 @@ module _ (terms : Terms) (p : Parts) (s : ℕ) (t : Session) (x : ℕ) (statemen
 
       -- the journal has no place for its Look
       pub look_refused : (cause : Cause) → Some cause ≡ over_by terms.weight p.weight 1 → CanBeRefused terms (past_of p.journal) s t cause
-      look_refused cause is = can_be_refused terms (past_of p.journal) s t x statement None first_works cause (look_judged ∙ sym is)
+      look_refused cause is = can_be_refused terms (past_of p.journal) s t x statement None first_works u.goes cause (look_judged ∙ sym is)
 
       module _ (fits : over_by terms.weight p.weight 1 ≡ None) where
         pub may_look : MayCome terms (past_of p.journal) (Look x)
-        may_look = look_may terms (past_of p.journal) s t x statement first_works u.placed (lacking_by true locked) (look_judged ∙ fits)
+        may_look = look_may terms (past_of p.journal) s t x statement first_works u.placed (lacking_by true locked) (look_judged ∙ fits) u.goes
 
         pub looked_works : Works terms (Look x ∷ past_of p.journal) s (record t { wants = None }) x statement (Some (past_of p.journal))
         looked_works = looks terms (past_of p.journal) s t x statement first_works may_look
@@ -193,18 +199,23 @@ module _ (terms : Terms) (p : Parts) (s : ℕ) (t : Session) (x : ℕ) (statemen
         pub looked_stage : Stage terms s (past_of p.journal) (Look x ∷ past_of p.journal) 0
         looked_stage = stage_looks terms (past_of p.journal) s t x statement first_works may_look
 
+        -- it can go on then
+        pub looked_goes : can_go_on (Look x ∷ past_of p.journal) s ≡ true
+        looked_goes = goes_after terms (past_of p.journal) s t x statement None first_works (Look x) first_works.by refl refl first_works.settled may_look
+
         looked_free : is_blocked (Look x ∷ past_of p.journal) s ≡ false
-        looked_free = goes_unblocked (Look x ∷ past_of p.journal) s (goes_after terms (past_of p.journal) s t x statement None first_works (Look x) first_works.by refl refl first_works.settled may_look)
+        looked_free = goes_unblocked (Look x ∷ past_of p.journal) s looked_goes
 
         -- what it does is judged by its Look, and then by what it weighs
         pub judged_after : (found : Option Cause) (next : ℕ) → look_cause statement [] (name_taker (Look x ∷ past_of p.journal) x statement) (latest terms (Look x ∷ past_of p.journal) x) (latest terms (past_of p.journal) x) ≡ found
             → weight_after statement [] (name_taker (Look x ∷ past_of p.journal) x statement) (latest terms (Look x ∷ past_of p.journal) x) (latest terms (past_of p.journal) x) ≡ Some next
             → cause_at terms (Look x ∷ past_of p.journal) x statement [] (Some (past_of p.journal)) ≡ first_of found (over_by terms.weight (p.weight + 1) next)
         judged_after found next look_is weight_is =
-            ap (λ (o : Option Cause). first_of o (limit_cause terms (Look x ∷ past_of p.journal) x (weight_after statement [] (name_taker (Look x ∷ past_of p.journal) x statement) (latest terms (Look x ∷ past_of p.journal) x) (latest terms (past_of p.journal) x)))) look_is
+            ap (λ (o : Option Cause). first_of o (first_of (tables_cause statement [] (name_taker (Look x ∷ past_of p.journal) x statement) (tables_made (Look x ∷ past_of p.journal))) (limit_cause terms (Look x ∷ past_of p.journal) x (weight_after statement [] (name_taker (Look x ∷ past_of p.journal) x statement) (latest terms (Look x ∷ past_of p.journal) x) (latest terms (past_of p.journal) x))))) look_is
+            ∙ (ap (λ (o : Option Cause). first_of found (first_of o (limit_cause terms (Look x ∷ past_of p.journal) x (weight_after statement [] (name_taker (Look x ∷ past_of p.journal) x statement) (latest terms (Look x ∷ past_of p.journal) x) (latest terms (past_of p.journal) x))))) (makes_none statement (name_taker (Look x ∷ past_of p.journal) x statement) (tables_made (Look x ∷ past_of p.journal)) u.other)
             ∙ (ap (λ (o : Option ℕ). first_of found (limit_cause terms (Look x ∷ past_of p.journal) x o)) weight_is
             ∙ (ap (λ (o : Option Cause). first_of found o) (limit_so terms (Look x ∷ past_of p.journal) s (record t { wants = None }) x statement (Some (past_of p.journal)) looked_works looked_free (Some next))
-            ∙ ap (λ (n : ℕ). first_of found (over_by terms.weight (n + 1) next)) (sym u.kept.sound.weighed)))
+            ∙ ap (λ (n : ℕ). first_of found (over_by terms.weight (n + 1) next)) (sym u.kept.sound.weighed))))
 
         pub acts_by : cause_at terms (Look x ∷ past_of p.journal) x statement [] (Some (past_of p.journal)) ≡ None → ActRule terms (Look x ∷ past_of p.journal) x
         acts_by free = act_may terms (Look x ∷ past_of p.journal) s (record t { wants = None }) x statement (Some (past_of p.journal)) looked_works refl (lacking_by true locked) free
@@ -213,13 +224,13 @@ module _ (terms : Terms) (p : Parts) (s : ℕ) (t : Session) (x : ℕ) (statemen
         pub look_fails : (cause : Cause) (q : Parts) → used_by cause ≡ 0 → cause_at terms (Look x ∷ past_of p.journal) x statement [] (Some (past_of p.journal)) ≡ Some cause → StaysBut p q → q.tables ≡ p.tables → past_of q.journal ≡ Look x ∷ past_of p.journal → HasFailed terms p q s t cause
         look_fails cause q uncut is stays tables past_is = record {
           amid = rw uncut (amid_after terms p q s 0 u.kept (rw past_is looked_stage) stays (rw (tables, past_is) u.kept.sound.stored));
-          refused = rw past_is (refused_still terms (Look x ∷ past_of p.journal) s t cause (can_be_refused terms (Look x ∷ past_of p.journal) s (record t { wants = None }) x statement (Some (past_of p.journal)) looked_works cause is));
+          refused = rw past_is (refused_still terms (Look x ∷ past_of p.journal) s t cause (can_be_refused terms (Look x ∷ past_of p.journal) s (record t { wants = None }) x statement (Some (past_of p.journal)) looked_works looked_goes cause is));
           stage = rw past_is looked_stage;
           more = rw past_is (omega arith);
         }
 
 -- a statement that uses a table, in the hand of an open transaction
-pub uses_of : (terms : Terms) (p : Parts) (s : ℕ) (t : Session) (x : ℕ) (statement : Statement) (name : List ℕ) → IsKept terms p → slice_get p.sessions s ≡ Some t → can_go_on (past_of p.journal) s ≡ true → t.xact ≡ Some x → statement_of terms t.hand 0 ≡ Some statement → used_name statement ≡ Some name → Uses terms p s t x statement name (mode_of statement)
+pub uses_of : (terms : Terms) (p : Parts) (s : ℕ) (t : Session) (x : ℕ) (statement : Statement) (name : List ℕ) → IsKept terms p → slice_get p.sessions s ≡ Some t → can_go_on (past_of p.journal) s ≡ true → t.xact ≡ Some x → statement_of terms t.hand t.done ≡ Some statement → used_name statement ≡ Some name → Uses terms p s t x statement name (mode_of statement)
 uses_of terms p s t x (statements.Insert table values) name kept seat goes in_xact is names =
     let same : table ≡ name = cc in
     record { kept = kept; seat = seat; goes = goes; in_xact = in_xact; statement_is = is; other = λ h. h; placed = refl; needs = λ db. rw same refl; names = λ db. rw same refl }

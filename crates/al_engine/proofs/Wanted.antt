@@ -19,6 +19,7 @@ use Rattle.al_history.proofs.Claims.{claim_itself, true_of_none, held_push, held
 use Rattle.al_history.proofs.Xacts.{turn}
 use Rattle.al_engine.specs.LockTie.{asks, WantsSo, OthersWant, locked_by}
 use Rattle.al_engine.proofs.Grants.{HaveCome}
+use Rattle.al_history.proofs.Stays.{wants_waits}
 
 -- ---- from requests to sessions
 
@@ -43,42 +44,9 @@ asks_its claims c there none =
 
 -- ---- what is wanted waits
 
-others_wait : (past : Past) (s r table : ℕ) (mode : Mode) (o : Option Want)
-    → cond (r == s) None o ≡ Some (wants.Table table mode) → (o ≡ Some (wants.Table table mode) → is_held (waiting past) (record { session = s; table = table; mode = mode }) ≡ true)
-    → is_held (without r (waiting past)) (record { session = s; table = table; mode = mode }) ≡ true
-others_wait past s r table mode o is more = by_test (r == s) refl is where
-  by_test : (b : Bool) → (r == s) ≡ b → cond b None o ≡ Some (wants.Table table mode) → is_held (without r (waiting past)) (record { session = s; table = table; mode = mode }) ≡ true
-  by_test true same is = absurd cc
-  by_test false other is = held_besides r (waiting past) (record { session = s; table = table; mode = mode }) (turn r s other) (more is)
-
-quiet_wait : (b : Bool) (o : Option Want) (want : Want) (P : Type 0) → cond b None o ≡ Some want → (o ≡ Some want → P) → P
-quiet_wait true o want P is more = absurd cc
-quiet_wait false o want P is more = more is
-
 -- a lock that a session wants is a request that waits
 pub wanted_waits : (past : Past) (s table : ℕ) (mode : Mode) → wanted_by past s ≡ Some (wants.Table table mode) → is_held (waiting past) (record { session = s; table = table; mode = mode }) ≡ true
-wanted_waits [] s table mode is = absurd cc
-wanted_waits (Wait x (wants.Table t m) ∷ past) s table mode is = by_test (session_of past x == s) refl is (λ h. wanted_waits past s table mode h) where
-  last : (claims : List Claim) (c d : Claim) → c ≡ d → is_held (claims ++ c ∷ []) d ≡ true
-  last [] c d same = rw (same, claim_itself d) refl
-  last (u ∷ claims) c d same = or_right (same_claim d u) (is_held (claims ++ c ∷ []) d) (last claims c d same)
-
-  by_test : (b : Bool) → (session_of past x == s) ≡ b → cond b (Some (wants.Table t m)) (wanted_by past s) ≡ Some (wants.Table table mode) → (wanted_by past s ≡ Some (wants.Table table mode) → is_held (waiting past) (record { session = s; table = table; mode = mode }) ≡ true)
-      → is_held (waiting past ++ claim past x t m ∷ []) (record { session = s; table = table; mode = mode }) ≡ true
-  by_test true own is more =
-      let one : t ≡ table = cc in
-      let other : m ≡ mode = cc in
-      last (waiting past) (claim past x t m) (record { session = s; table = table; mode = mode }) (rw (eqb-true (session_of past x) s own, one, other) refl)
-  by_test false own is more = held_still (waiting past) (record { session = s; table = table; mode = mode }) (claim past x t m) (more is)
-wanted_waits (Wait x (wants.Ends y) ∷ past) s table mode is = by_test (session_of past x == s) is (λ h. wanted_waits past s table mode h) where
-  by_test : (b : Bool) → cond b (Some (wants.Ends y)) (wanted_by past s) ≡ Some (wants.Table table mode) → (wanted_by past s ≡ Some (wants.Table table mode) → is_held (waiting past) (record { session = s; table = table; mode = mode }) ≡ true)
-      → is_held (waiting past) (record { session = s; table = table; mode = mode }) ≡ true
-  by_test true is more = absurd cc
-  by_test false is more = more is
-wanted_waits (Lock x t m ∷ past) s table mode is = others_wait past s (session_of past x) table mode (wanted_by past s) is (λ h. wanted_waits past s table mode h)
-wanted_waits (Commit x ∷ past) s table mode is = others_wait past s (session_of past x) table mode (wanted_by past s) is (λ h. wanted_waits past s table mode h)
-wanted_waits (Abort x ∷ past) s table mode is = others_wait past s (session_of past x) table mode (wanted_by past s) is (λ h. wanted_waits past s table mode h)
-wanted_waits (e ∷ past) s table mode is = quiet_wait (made_by past e == s) (wanted_by past s) (wants.Table table mode) _ is (λ h. wanted_waits past s table mode h)
+wanted_waits past s table mode is = wants_waits past s table mode is
 
 -- ---- who waits is blocked
 
@@ -132,8 +100,8 @@ left_wants past s c so there =
     let left = held_left s (waiting past) c there in
     rw (turn c.session s left.1) (so c left.0 left.1)
 
-pub wants_locked : (past : Past) (x table : ℕ) (mode : Mode) → OthersWant (session_of past x) past → WantsSo (Lock x table mode ∷ past)
-wants_locked past x table mode so c there = left_wants past (session_of past x) c so there
+pub wants_locked : (past : Past) (x table : ℕ) (mode : Mode) → waiting (Lock x table mode ∷ past) ≡ without (session_of past x) (waiting past) → OthersWant (session_of past x) past → WantsSo (Lock x table mode ∷ past)
+wants_locked past x table mode is so c there = left_wants past (session_of past x) c so (rw is at there)
 
 pub wants_committed : (past : Past) (x : ℕ) → OthersWant (session_of past x) past → WantsSo (Commit x ∷ past)
 wants_committed past x so c there = left_wants past (session_of past x) c so there

@@ -1,5 +1,5 @@
 -- What a session that is being closed has left behind.
-use Rattle.std.specs.Prelude.{◌≡◌, ℕ, ◌+◌, true, Some, None, slice_get}
+use Rattle.std.specs.Prelude.{◌≡◌, ℕ, List, ◌+◌, true, Some, None, slice_get}
 use Rattle.al_history.specs.declared.entry.Entry.TheVariants.{Close}
 use Rattle.al_spec.specs.declared.spec.Spec.{Spec}
 use Rattle.al_history.specs.declared.statement.Terms.{Terms}
@@ -8,7 +8,7 @@ use Rattle.al_history.specs.Hand.{hand, xact_of, closed, block_state}
 use Rattle.al_history.specs.Locks.{is_settled}
 use Rattle.al_history.specs.Made.{Extends}
 use Rattle.al_history.specs.Tail.{owed, Follows}
-use Rattle.al_history.specs.Whole.{driver, failed_setup, Driven}
+use Rattle.al_history.specs.Whole.{driver, failed_setup, left, Driven}
 use Rattle.al_engine.specs.declared.sessions.Session.{Session}
 use Rattle.al_engine.specs.Ran.{IsAborted}
 use Rattle.al_engine.specs.Sessions.{state_of, light_of, of_xact}
@@ -30,4 +30,5 @@ pub record HasLeft (terms : Terms) (p q : Parts) (s : ℕ) (t : Session) : Type 
   pub closed_same : (r : ℕ) → closed (past_of q.journal) r ≡ closed (past_of p.journal) r
   pub driven_so : driver (past_of q.journal) ≡ driver (past_of p.journal)
   pub failed : (spec : Spec) → failed_setup spec (past_of q.journal) ≡ failed_setup spec (past_of p.journal)
+  pub tasks : (spec : Spec) (steps : List ℕ) → left spec steps (past_of q.journal) ≡ left spec steps (past_of p.journal)
   pub in_turn : Driven terms (past_of p.journal) → Driven terms (past_of q.journal)

@@ -1,12 +1,12 @@
 -- Where BEGIN, COMMIT or ROLLBACK can be done: its transaction is open, or has ended.
-use Rattle.std.specs.Prelude.{◌≡◌, ℕ, ◌+◌, ◌≤◌, ◌∷◌, Bool, true, false, cond, Option, Some, None, slice_get}
+use Rattle.std.specs.Prelude.{◌≡◌, ℕ, nat_lt, ◌+◌, ◌-◌, ◌<◌, ◌≤◌, ◌∷◌, Bool, true, false, cond, Option, Some, None, slice_get}
 use Rattle.al_history.specs.declared.entry.Entry.TheVariants.{Done}
 use Rattle.al_history.specs.declared.entry.Reply.{Reply}
 use Rattle.al_history.specs.declared.entry.Reply.TheVariants as replies
 use Rattle.al_history.specs.declared.entry.Tag.TheVariants as tags
 use Rattle.al_history.specs.declared.statement.Terms.{Terms}
 use Rattle.al_history.specs.Past.{Past, past_of}
-use Rattle.al_history.specs.Hand.{hand, dones, statement_of, xact_of, if_no_block, closed, block_state, block_after}
+use Rattle.al_history.specs.Hand.{hand, dones, refused, xact_of, if_no_block, closed, block_state, block_after}
 use Rattle.al_history.specs.Locks.{waiting, is_settled}
 use Rattle.al_history.specs.Rules.{commit_tag}
 use Rattle.al_history.specs.Legal.{MayCome}
@@ -15,23 +15,33 @@ use Rattle.al_history.proofs.Turns.{Tail}
 use Rattle.al_engine.specs.declared.sessions.Session.{Session}
 use Rattle.al_engine.specs.declared.sessions.Block.{Block}
 use Rattle.al_engine.specs.LockTie.{asks}
-use Rattle.al_engine.specs.Sessions.{state_of, light_of}
+use Rattle.al_engine.specs.Sessions.{IsCounted, state_of, light_of}
 use Rattle.al_engine.specs.Kept.{Parts, IsAmid}
 
 -- what the session is doing by then: the transaction that is open is no implicit one once the statement is done
 pub record IsLast (terms : Terms) (past : Past) (s : ℕ) (seat : Session) (xact : Option ℕ) (reply : Reply) : Type 0 where
   pub block : ℕ
   pub busy : hand past s ≡ Some block
-  pub none_done : dones past s ≡ 0
-  pub last : statement_of terms (Some block) 1 ≡ None
+  pub hand_is : seat.hand ≡ Some block
+  pub dones_is : dones past s ≡ seat.done
+  pub counted : IsCounted terms block seat.done seat.left
+  pub unrefused : refused past s ≡ false
   pub xact_is : xact_of past s ≡ xact
   pub block_is : block_state past s ≡ state_of seat.block
   pub closed_is : closed past s ≡ seat.closed
-  pub none_left : if_no_block (block_after reply (state_of seat.block)) xact ≡ None
+  pub none_left : seat.left ≤ 1 → if_no_block (block_after reply (state_of seat.block)) xact ≡ None
 
 -- what is kept of it after its step
 abbrev pub stopped : Session → Option ℕ → Block → Session
-stopped seat xact block = record { hand = None; xact = xact; block = block; looked = false; wants = None; closed = seat.closed }
+stopped seat xact block = record { hand = None; done = seat.done; left = seat.left; xact = xact; block = block; looked = false; wants = None; closed = seat.closed }
+
+-- what is kept of it where its step goes on with the next statement
+abbrev pub onward : Session → Option ℕ → Block → Session
+onward seat xact block = record { hand = seat.hand; done = seat.done + 1; left = seat.left - 1; xact = xact; block = block; looked = false; wants = None; closed = seat.closed }
+
+-- what is kept of a session whose statement is done: its step goes on with the next one, or ends
+abbrev pub passed : Session → Session
+passed seat = cond (nat_lt 1 seat.left) (onward seat seat.xact seat.block) (record seat { hand = None; looked = false; wants = None })
 
 -- in the middle of a call that began at an old past, the statement can be done with this reply
 pub record IsOver (terms : Terms) (m : Parts) (s used : ℕ) (t seat : Session) (old : Past) (xact : Option ℕ) (reply : Reply) : Type 0 where
@@ -44,6 +54,7 @@ pub record IsOver (terms : Terms) (m : Parts) (s used : ℕ) (t seat : Session) 
   pub tail : Tail terms s old (Done s reply ∷ past_of m.journal) false (driver old) (IsLeast old s)
   pub its : (x : ℕ) → xact ≡ Some x → t.xact ≡ Some x
   pub fits : (block : Block) → light_of (stopped seat xact block) + used + 2 ≤ light_of t
+  pub fits_on : (block : Block) → 1 < seat.left → light_of (onward seat xact block) + used + 1 ≤ light_of t
 
 -- COMMIT of a failed block rolls back
 abbrev pub end_reply : Session → Bool → Reply

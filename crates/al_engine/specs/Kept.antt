@@ -7,7 +7,7 @@ use Rattle.al_history.specs.Hand.{hand, dones, refused, xact_of, look_of, acts_o
 use Rattle.al_history.specs.Locks.{Claim, grantable, is_settled}
 use Rattle.al_history.specs.Store.{store}
 use Rattle.al_history.specs.Tail.{owed, Follows}
-use Rattle.al_history.specs.Legal.{Legal}
+use Rattle.al_history.specs.Legal.{in_time, Legal}
 use Rattle.al_history.proofs.Doings.{doing}
 use Rattle.al_queue.specs.Locks.{Kept as KeptLocks}
 use Rattle.al_queue.specs.Settled.{IsSettled}
@@ -24,9 +24,9 @@ use Rattle.al_history.specs.Need.{lacking}
 use Rattle.al_history.specs.Waits.{can_go_on}
 use Rattle.al_history.specs.Weight.{weight}
 use Rattle.al_history.specs.Rules.{Answers}
-use Rattle.al_engine.specs.Ran.{AreSingle, IsAborted}
+use Rattle.al_engine.specs.Ran.{IsAborted}
 use Rattle.al_engine.specs.LockTie.{IsTied, WantsSo, OthersWant}
-use Rattle.al_engine.specs.Sessions.{IsMirror, IsOutlined, state_of, light}
+use Rattle.al_engine.specs.Sessions.{IsMirror, IsOutlined, IsCounted, state_of, light}
 use Rattle.al_engine.specs.Stored.{all_kept, TellsCommitted}
 
 -- The parts of a machine, as contracts see them.
@@ -58,7 +58,6 @@ pub record IsSound (terms : Terms) (p : Parts) (used : ℕ) : Type 0 where
   pub queues : IsSettled p.locks.locks
   pub weighed : p.weight ≡ weight (past_of p.journal)
   pub reserved : light p.sessions + length p.locks.locks.waiting ≤ p.journal.room + used
-  pub single : AreSingle terms.scripts
 
 -- In the middle of a call for the session s, also the records of the other sessions are what they stand for.
 pub record IsAmid (terms : Terms) (p : Parts) (s used : ℕ) : Type 0 where
@@ -112,11 +111,12 @@ pub record CanBeDone (terms : Terms) (past : Past) (s : ℕ) (t : Session) (repl
   pub outline : IsOutlined (doing past s) (record t { wants = None })
   pub in_step : IsSome t.hand
   pub in_xact : IsSome t.xact
-  pub none_done : dones past s ≡ 0
+  pub dones_is : dones past s ≡ t.done
+  pub counted : (block : ℕ) → t.hand ≡ Some block → IsCounted terms block t.done t.left
   pub none_refused : refused past s ≡ false
-  pub answers : Answers (statement_of terms t.hand 0) (acts_of past s) t.xact (state_of t.block) reply
+  pub answers : Answers (statement_of terms t.hand t.done) (acts_of past s) t.xact (state_of t.block) reply
   pub keeps_block : block_after reply (state_of t.block) ≡ state_of t.block
-  pub last : statement_of terms t.hand 1 ≡ None
+  pub goes : can_go_on past s ≡ true
 
 -- how many light entries a refusal finds used: the Cancel, where the step was cancelled
 abbrev pub used_by : Cause → ℕ
@@ -133,6 +133,7 @@ pub record CanBeRefused (terms : Terms) (past : Past) (s : ℕ) (t : Session) (c
   pub first_true : cause_of terms past s ≡ Some cause
   pub settled : is_settled past ≡ true
   pub follows : Follows (owed terms past) (Refuse s cause)
+  pub timely : in_time (owed terms past) past s ≡ true
 
 -- the entries of a refusal: the Refuse, the Abort of an open transaction with the locks that it frees, and the End
 pub record IsRefused (old new : Past) (s : ℕ) (x : Option ℕ) (cause : Cause) : Type 0 where

@@ -1,9 +1,11 @@
 -- What is kept of the sessions, and what it stands for.
-use Rattle.std.specs.Prelude.{◌≡◌, ℕ, ◌+◌, ◌<◌, ◌&&◌, Bool, true, false, not, cond, List, [], ◌∷◌, map, slice_get, slice_set, Option, Some, None, IsSome, is_some, option_and_then, unwrap_or}
+use Rattle.std.specs.Prelude.{◌≡◌, ℕ, ◌+◌, ◌*◌, ◌^◌, max, length, Result, Ok, Err, ◌<◌, ◌&&◌, Bool, true, false, not, cond, List, [], ◌∷◌, map, slice_get, slice_set, Option, Some, None, IsSome, is_some, option_and_then, unwrap_or}
 use Rattle.std.specs.List.{list_any}
 use Rattle.al_history.specs.declared.entry.Want.{Want}
 use Rattle.al_history.specs.declared.entry.Want.TheVariants as wants
 use Rattle.al_history.specs.declared.statement.Terms.{Terms}
+use Rattle.al_history.specs.declared.statement.ScriptBlock.{ScriptBlock}
+use Rattle.al_history.specs.declared.statement.SqlFault.{SqlFault}
 use Rattle.al_history.specs.declared.statement.Statement.{Statement}
 use Rattle.al_history.specs.declared.statement.Statement.TheVariants as statements
 use Rattle.al_history.specs.Fate.{is_that}
@@ -16,7 +18,7 @@ use Rattle.al_engine.specs.declared.sessions.Session.{Session}
 
 -- an open session without a step in hand
 abbrev pub idle_session : Session
-idle_session = record { hand = None; xact = None; block = blocks.Outside; looked = false; wants = None; closed = false }
+idle_session = record { hand = None; done = 0; left = 0; xact = None; block = blocks.Outside; looked = false; wants = None; closed = false }
 
 abbrev pub state_of : Block → BlockState
 state_of blocks.Outside = NoBlock
@@ -28,16 +30,33 @@ abbrev pub MakesTable : Option Statement → Type 0
 MakesTable (Some (statements.CreateTable name columns)) = Unit {0}
 MakesTable statement = ⊥
 
--- A session's step in hand is under way: its statement, the only one of its block, has done nothing yet. Between two calls only a
--- CREATE TABLE has looked: it waits.
-pub record IsUnderway (terms : Terms) (d : Doing) (block : ℕ) (looked : Bool) : Type 0 where
-  pub none_done : d.dones ≡ 0
+-- how many statements a block's script has; a text that is no script has none
+abbrev pub length_in : Result (List Statement) SqlFault → ℕ
+length_in (Ok script) = length script
+length_in (Err fault) = 0
+
+abbrev pub length_at : Option ScriptBlock → ℕ
+length_at None = 0
+length_at (Some block) = length_in block.script
+
+abbrev pub script_length : Terms → ℕ → ℕ
+script_length terms block = length_at (slice_get terms.scripts.blocks block)
+
+-- so many statements of the block are done, and so many aren't; only an empty script has none left
+pub record IsCounted (terms : Terms) (block done left : ℕ) : Type 0 where
+  pub all : done + left ≡ script_length terms block
+  pub few : done + left < 2 ^ 32
+  pub some : left ≡ 0 → done ≡ 0
+
+-- A session's step in hand is under way: so many statements of its block are done, and its statement in hand has done nothing yet.
+-- Between two calls only a CREATE TABLE has looked: it waits.
+pub record IsUnderway (terms : Terms) (d : Doing) (block done left : ℕ) (looked : Bool) : Type 0 where
+  pub dones_is : d.dones ≡ done
+  pub counted : IsCounted terms block done left
   pub none_refused : d.refused ≡ false
   pub no_acts : d.acts ≡ []
   pub look_is : is_some d.look ≡ looked
-  pub only_creates : looked ≡ true → MakesTable (statement_of terms (Some block) 0)
-  pub has_one : IsSome (statement_of terms (Some block) 0)
-  pub has_no_more : statement_of terms (Some block) 1 ≡ None
+  pub only_creates : looked ≡ true → MakesTable (statement_of terms (Some block) done)
 
 -- what a session is doing by the journal, but for its step, is what is kept of it
 pub record IsOutlined (d : Doing) (t : Session) : Type 0 where
@@ -50,7 +69,7 @@ pub record IsOutlined (d : Doing) (t : Session) : Type 0 where
 -- what a session is doing by the journal is what is kept of it
 pub record IsMirror (terms : Terms) (d : Doing) (t : Session) : Type 0 where
   pub outline : IsOutlined d t
-  pub underway : (block : ℕ) → t.hand ≡ Some block → IsUnderway terms d block t.looked
+  pub underway : (block : ℕ) → t.hand ≡ Some block → IsUnderway terms d block t.done t.left t.looked
 
 -- the open transaction of a session
 abbrev pub xact_in : List Session → ℕ → ℕ
@@ -91,21 +110,22 @@ pub record IsFirstReady (sessions : List Session) (at : ℕ) : Type 0 where
 -- ---- light entries
 
 -- How many entries are reserved for a session: its Close; the end of its open transaction; and for its step in hand a Cancel, the
--- Refuse or Done, the End, and where none is open the Start and the end of a transaction.
+-- End, and for each statement that is left the Start and the end of a transaction and the Refuse or Done, but for a transaction
+-- that is open already. A step without a statement may be cancelled or refused too.
 abbrev pub of_xact : Option ℕ → ℕ
 of_xact None = 0
 of_xact (Some x) = 1
 
-abbrev pub of_step : Option ℕ → ℕ
-of_step None = 5
-of_step (Some x) = 3
+abbrev pub of_step : Option ℕ → ℕ → ℕ
+of_step None left = max 3 (3 * left + 2)
+of_step (Some x) left = max 3 (3 * left)
 
-abbrev pub of_hand : Option ℕ → Option ℕ → ℕ
-of_hand None xact = 0
-of_hand (Some block) xact = of_step xact
+abbrev pub of_hand : Option ℕ → Option ℕ → ℕ → ℕ
+of_hand None xact left = 0
+of_hand (Some block) xact left = of_step xact left
 
 abbrev pub light_of : Session → ℕ
-light_of t = cond t.closed 0 1 + (of_xact t.xact + of_hand t.hand t.xact)
+light_of t = cond t.closed 0 1 + (of_xact t.xact + of_hand t.hand t.xact t.left)
 
 abbrev pub light : List Session → ℕ
 light [] = 0

@@ -31,7 +31,7 @@ pub record Uses (terms : Terms) (p : Parts) (s : ℕ) (t : Session) (x : ℕ) (s
   pub seat : slice_get p.sessions s ≡ Some t
   pub goes : can_go_on (past_of p.journal) s ≡ true
   pub in_xact : t.xact ≡ Some x
-  pub statement_is : statement_of terms t.hand 0 ≡ Some statement
+  pub statement_is : statement_of terms t.hand t.done ≡ Some statement
   pub other : MakesTable (Some statement) → ⊥
   pub placed : has_place statement ≡ true
   pub needs : (db : Database) → need s statement db ≡ lock_of s mode (named db name)

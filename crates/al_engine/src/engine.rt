@@ -5,8 +5,8 @@ ghost use Rattle.al_history.specs.Hand.{hand, in_hand, closed};
 ghost use Rattle.al_history.specs.Made.{row_entries};
 ghost use Rattle.al_engine.specs.Kept.{IsKept, parts_of, past_in};
 ghost use Rattle.al_engine.specs.Closing.{HasLeft};
-ghost use Rattle.al_engine.specs.Sessions.{of_step};
-ghost use Rattle.al_engine.specs.Ran.{Ran, IsLegalRun, AreSingle, IsBusyFor, IsTurned, ends_block, Cancels, IsClosed, IsReady};
+ghost use Rattle.al_engine.specs.Sessions.{script_length, of_step};
+ghost use Rattle.al_engine.specs.Ran.{Ran, IsLegalRun, AreOfSessions, IsBusyFor, IsTurned, ends_block, Cancels, IsClosed, IsReady};
 
 use crate::machine::{Machine, abort, refuse};
 use crate::sessions::{Session, first_ready, given, idle_sessions, is_held_up};
@@ -14,14 +14,22 @@ use crate::told::{Busy, Told};
 use crate::turns::go_on;
 use al_history::{Cause, Entry, History, Scripts, Terms};
 use al_queue::LockTable;
-use al_values::{Cant, NoMemory, Steps};
+use al_values::{Cant, NoMemory, Steps, count_of};
 use std::alloc::Global;
 use std::marker::Model;
 use std::sync::ledger::Ledger;
 
-// The light entries that are reserved for a step in hand of a session without an open transaction: a Start, a Cancel, the Refuse
-// or the Done, the end of the transaction and the End.
-const LIGHT_ENTRIES: usize = 5;
+// The light entries that are reserved for each statement of a step: a Start, the Refuse or the Done, and the end of the transaction.
+const STATEMENT_LIGHT: usize = 3;
+
+// Those for the step itself: a Cancel and the End.
+const STEP_LIGHT: usize = 2;
+
+// Those for a step without a statement: a Cancel, its Refuse and the End.
+const FEWEST_LIGHT: usize = 3;
+
+// More than this a journal can't reserve.
+const MOST_PLACES: usize = 4_294_967_295;
 
 /// The sessions of one run, over a database that is empty at first. Contracts see its terms, which are the blocks that may be
 /// given and the weight that the journal may have, and the past of the journal. So far each block has one statement.
@@ -46,7 +54,7 @@ impl Model for Engine {
 impl Engine {
     /// An empty database and an empty journal, whose entries may weigh so much; all sessions are open and have no step in hand.
     pub fn open(alloc: Global, scripts: Scripts, weight: u32) -> Result<Engine, NoMemory>
-        requires { AreSingle scripts }
+        requires { AreOfSessions scripts }
         ensures { IfOk result (λ engine. engine ≡ record { terms = record { scripts = scripts; weight = weight }; past = [] }) }
     {
         let mut journal = History::new(alloc);
@@ -79,12 +87,14 @@ impl Engine {
     {
         let _ = alloc;
         let at = session as usize;
-        let Ok(given) = given(self.machine.sessions[at], block) else {
+        let seat = self.machine.sessions[at];
+        if seat.hand.is_some() {
             return Err(Cant::Why(Busy));
-        };
-        reserve_step(&mut self.machine.journal)?;
+        }
+        let statements = statements_of(&self.terms, block)?;
+        reserve_step(&mut self.machine.journal, statements)?;
         self.machine.journal.note(Entry::Give { session, block });
-        self.machine.sessions[at] = given;
+        self.machine.sessions[at] = given(seat, block, statements);
         Ok(())
     }
 
@@ -178,7 +188,16 @@ impl Engine {
         ensures is { past_of result ≡ self.past }
         ensures legal { IsLegalRun self }
     {
-        let Engine { terms: _, machine } = self;
+        self.finish().0
+    }
+
+    /// The journal of the run, and its blocks, for another run.
+    pub fn finish(self) -> (History, Scripts)
+        ensures is { past_of result.0 ≡ self.past }
+        ensures scripts { result.1 ≡ self.terms.scripts }
+        ensures legal { IsLegalRun self }
+    {
+        let Engine { terms, machine } = self;
         let Machine {
             journal,
             sessions: _,
@@ -187,17 +206,36 @@ impl Engine {
             committed: _,
             weight: _,
         } = machine;
-        journal
+        let Terms { scripts, weight: _ } = terms;
+        (journal, scripts)
+    }
+}
+
+/// How many statements a block has; none where its text is no script.
+fn statements_of(terms: &Terms, block: u32) -> Result<u32, NoMemory>
+    ensures { IfOk result (λ count. count ≡ script_length terms.now block) }
+{
+    match terms.scripts.blocks.get(block as usize) {
+        Some(block) => match &block.script {
+            Ok(script) => count_of(script.len()),
+            Err(_) => Ok(0),
+        },
+        None => Ok(0),
     }
 }
 
 /// Reserves the places of a Give and of the light entries of its step.
-fn reserve_step(journal: &mut History) -> Result<(), NoMemory>
+fn reserve_step(journal: &mut History, statements: u32) -> Result<(), NoMemory>
     ensures entries { journal.new.entries ≡ journal.old.entries }
-    ensures ok { OnOk result (journal.new.room ≡ journal.old.room + 1 + of_step None) }
+    ensures ok { OnOk result (journal.new.room ≡ journal.old.room + 1 + of_step None statements) }
     ensures err { OnErr result (journal.new.room ≡ journal.old.room) }
 {
-    journal.reserve(1 + LIGHT_ENTRIES)
+    let light = FEWEST_LIGHT.max(STATEMENT_LIGHT * statements as usize + STEP_LIGHT);
+    let places = 1 + light;
+    if places > MOST_PLACES {
+        return Err(NoMemory);
+    }
+    journal.reserve(places)
 }
 
 /// The open transaction of an idle session is aborted, where it has one.

@@ -1,5 +1,5 @@
 //! What is kept of a run beside its blocks, and how statements and transactions end in it.
-ghost use Rattle.std.specs.Prelude.{◌≡◌, ◌+◌, ◌<◌, ◌≤◌, ◌∷◌, Some, None, true, false, length, slice_get, slice_set};
+ghost use Rattle.std.specs.Prelude.{◌≡◌, ◌+◌, ◌<◌, ◌≤◌, ◌∷◌, ◌^◌, Some, None, true, false, length, slice_get, slice_set};
 ghost use Rattle.al_history.specs.declared.entry.Entry.TheVariants.{Commit, Abort, Refuse, End};
 ghost use Rattle.al_history.specs.Made.{row_entries};
 ghost use Rattle.al_history.specs.Hand.{failed_at};
@@ -12,6 +12,7 @@ ghost use Rattle.al_queue.specs.Settled.{IsSettled, HandsOn};
 ghost use Rattle.al_engine.specs.LockTie.{locked_by, IsNoted};
 ghost use Rattle.al_engine.specs.Sessions.{state_of, xact_in, wakened, woken, IsWakened};
 ghost use Rattle.al_engine.specs.Ran.{IsAborted};
+ghost use Rattle.al_engine.specs.Ended.{onward};
 ghost use Rattle.al_engine.specs.Kept.{parts_of, past_in, IsAmid, IsClear, IsKept, CanBeDone, CanBeRefused, IsRefused, used_by};
 
 use crate::sessions::{Block, Session};
@@ -136,7 +137,23 @@ pub fn abort(machine: &mut Machine, session: u32, xact: u32)
     end_claims(machine, session);
 }
 
-/// The statement in hand is done with this reply: its step ends, and with it an implicit transaction.
+/// The session once the statement in hand is done, and goes on with the next one.
+pub fn next_statement(seat: Session) -> Session
+    requires more { 1 < seat.left }
+    requires few { seat.done + seat.left < 2 ^ 32 }
+    ensures { result ≡ onward seat seat.xact seat.block }
+{
+    Session {
+        done: seat.done + 1,
+        left: seat.left - 1,
+        looked: false,
+        wants: None,
+        ..seat
+    }
+}
+
+/// The statement in hand is done with this reply. The step goes on with the next one; after the last one it ends, and with it an
+/// implicit transaction.
 pub fn done(_terms: &Terms, machine: &mut Machine, session: u32, seat: Session, reply: Reply)
     requires known { session < _terms.now.scripts.sessions }
     requires amid { IsAmid _terms.now (parts_of machine.old) session 0 }
@@ -148,7 +165,9 @@ pub fn done(_terms: &Terms, machine: &mut Machine, session: u32, seat: Session, 
     ensures went { Went _terms.now session (past_in machine.old) (past_in machine.new) false (driver (past_in machine.old)) (IsLeast (past_in machine.old) session) }
 {
     machine.journal.note(Entry::Done { session, reply });
-    if let (Block::Outside, Some(xact)) = (seat.block, seat.xact) {
+    if seat.left > 1 {
+        machine.sessions[session as usize] = next_statement(seat);
+    } else if let (Block::Outside, Some(xact)) = (seat.block, seat.xact) {
         commit(machine, session, xact);
         end_step(machine, session, Session { xact: None, ..seat });
     } else {

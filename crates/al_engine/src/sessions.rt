@@ -2,7 +2,6 @@
 ghost use Rattle.std.specs.Prelude.{◌≡◌, None, Some, false, IsSome, IfOk, OnOk, OnErr, IfSome, IfNone, length, replicate};
 ghost use Rattle.al_engine.specs.Sessions.{idle_session, is_open_in, is_held_up, IsFirstReady, AreStuck};
 
-use crate::told::Busy;
 use al_history::Want;
 use al_values::NoMemory;
 use std::alloc::Global;
@@ -26,6 +25,10 @@ pub enum Block {
 pub struct Session {
     /// The block of the script of its step in hand.
     pub hand: Option<u32>,
+    /// How many of its statements are done.
+    pub done: u32,
+    /// How many aren't done yet, the one in hand among them.
+    pub left: u32,
     /// Its open transaction.
     pub xact: Option<u32>,
     /// Its transaction block.
@@ -46,6 +49,8 @@ pub fn idle_sessions(alloc: Global, count: u32) -> Result<Vec<Session>, NoMemory
     for _session in 0..count {
         sessions.push(Session {
             hand: None,
+            done: 0,
+            left: 0,
             xact: None,
             block: Block::Outside,
             looked: false,
@@ -56,21 +61,18 @@ pub fn idle_sessions(alloc: Global, count: u32) -> Result<Vec<Session>, NoMemory
     Ok(sessions)
 }
 
-/// The session with this block as its step in hand, unless it has one already.
-pub fn given(seat: Session, block: u32) -> Result<Session, Busy>
-    ensures ok { IfOk result (λ given. given ≡ record seat { hand = Some block; looked = false; wants = None }) }
-    ensures idle { OnOk result (seat.hand ≡ None) }
-    ensures busy { OnErr result (IsSome seat.hand) }
+/// The session with this block, of so many statements, as its step in hand.
+pub fn given(seat: Session, block: u32, statements: u32) -> Session
+    ensures { result ≡ record seat { hand = Some block; done = 0; left = statements; looked = false; wants = None } }
 {
-    if seat.hand.is_some() {
-        return Err(Busy);
-    }
-    Ok(Session {
+    Session {
         hand: Some(block),
+        done: 0,
+        left: statements,
         looked: false,
         wants: None,
         ..seat
-    })
+    }
 }
 
 /// Whether somebody holds up what is wanted: a lock is always held up while it is waited for, since it is granted as soon as it can

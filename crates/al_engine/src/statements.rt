@@ -17,11 +17,11 @@ ghost use Rattle.al_history.specs.Waits.{can_go_on};
 ghost use Rattle.al_history.proofs.Turns.{Went};
 ghost use Rattle.al_engine.specs.Kept.{parts_of, past_in, IsKept, IsSame, CanBeRefused, Lacks, over_by};
 ghost use Rattle.al_engine.specs.Using.{mode_of, IsLocked, create_weight};
-ghost use Rattle.al_engine.specs.Creating.{taker_in, seen_in, look_past};
+ghost use Rattle.al_engine.specs.Creating.{taker_in, seen_in, limit_in, look_past};
 ghost use Rattle.al_engine.specs.Stored.{all_kept};
 ghost use Rattle.al_engine.specs.Sessions.{xacts_in};
 
-use crate::causes::{alter_cause, count_cause, create_cause, first_of};
+use crate::causes::{alter_cause, count_cause, create_cause, first_of, tables_cause};
 use crate::machine::{Machine, done, refuse};
 use crate::sessions::Session;
 use crate::stored::{
@@ -183,7 +183,7 @@ fn create_refusal(
     columns: &[Name],
     taker: Option<u32>,
 ) -> Result<Option<Cause>, NoMemory>
-    ensures { IfOk result (λ cause. cause ≡ first_of (create_cause name.now columns.now taker (seen_in (parts_of machine.now) xact)) (over_by limit (machine.now.weight + cond looked 0 1) (create_weight columns.now taker))) }
+    ensures { IfOk result (λ cause. cause ≡ first_of (create_cause name.now columns.now taker (seen_in (parts_of machine.now) xact)) (limit_in limit (machine.now.weight + cond looked 0 1) (length machine.now.tables.items) name.now columns.now taker)) }
 {
     let reader = Reader {
         xact,
@@ -192,7 +192,8 @@ fn create_refusal(
     let weight = create_weight(columns, taker)?;
     let so_far = plus(machine.weight, u64::from(!looked))?;
     let found = create_cause(alloc, &machine.tables, &reader, name, columns, taker)?;
-    Ok(first_of(found, over(limit, so_far, weight)?))
+    let tables = tables_cause(machine.tables.len(), taker)?;
+    Ok(first_of(found, first_of(tables, over(limit, so_far, weight)?)))
 }
 
 /// CREATE TABLE. Where an open transaction of another is in the way of its name, it waits for its end.
@@ -211,7 +212,7 @@ pub fn create_table(
     requires seat { slice_get machine.old.sessions.items session ≡ Some seat }
     requires goes { can_go_on (past_in machine.old) session ≡ true }
     requires in_xact { seat.xact ≡ Some xact }
-    requires statement { statement_of terms.now seat.hand 0 ≡ Some (statements.CreateTable name.now columns.now) }
+    requires statement { statement_of terms.now seat.hand seat.done ≡ Some (statements.CreateTable name.now columns.now) }
     ensures kept { OnOk result (IsKept terms.now (parts_of machine.new)) }
     ensures went { IfOk result (λ refused. Went terms.now session (past_in machine.old) (past_in machine.new) refused (driver (past_in machine.old)) (IsLeast (past_in machine.old) session)) }
     ensures err { OnErr result (IsSame (parts_of machine.old) (parts_of machine.new)) }
@@ -356,7 +357,7 @@ pub fn use_table<L: Ledger>(
     requires seat { slice_get machine.old.sessions.items session ≡ Some seat }
     requires goes { can_go_on (past_in machine.old) session ≡ true }
     requires in_xact { seat.xact ≡ Some xact }
-    requires statement { statement_of terms.now seat.hand 0 ≡ Some statement.now }
+    requires statement { statement_of terms.now seat.hand seat.done ≡ Some statement.now }
     requires uses { IsSome (used_name statement.now) }
     ensures kept { OnOk result (IsKept terms.now (parts_of machine.new)) }
     ensures went { IfOk result (λ refused. Went terms.now session (past_in machine.old) (past_in machine.new) refused (driver (past_in machine.old)) (IsLeast (past_in machine.old) session)) }
@@ -558,7 +559,7 @@ fn add_column(
     let act = Entry::Alter {
         xact,
         table: number,
-        statement: 0,
+        statement: seat.done,
         rewritten: RewrittenList::new(alloc),
     };
     note_heavy(machine, act, 1);

@@ -1,8 +1,10 @@
 //! A turn of a session that can go on: a transaction begins or ends, or the statement in hand goes on.
-ghost use Rattle.std.specs.Prelude.{◌≡◌, ◌<◌, ◌≤◌, ◌+◌, ◌++◌, ◌-◌, true, false, cond, Some, None, IsSome, IfOk, OnOk, OnErr, slice_get, length, option_map, replicate};
+ghost use Rattle.std.specs.Prelude.{◌≡◌, ◌<◌, ◌≤◌, ◌+◌, ◌++◌, ◌-◌, true, false, cond, Some, None, IsSome, IfOk, OnOk, OnErr, slice_get, slice_set, length, option_map, option_and_then, replicate, ℕ, ◌^◌, ◌∷◌, nat_lt};
 ghost use Rattle.al_history.specs.declared.entry.Tag.TheVariants as tags;
 ghost use Rattle.al_history.specs.declared.statement.Statement.TheVariants as statements;
-ghost use Rattle.al_history.specs.Hand.{NoBlock, opened, statement_of};
+ghost use Rattle.al_history.specs.declared.entry.Entry.TheVariants.{End};
+ghost use Rattle.al_history.specs.Cause.{text_cause};
+ghost use Rattle.al_history.specs.Hand.{NoBlock, opened, statement_in, statement_of, fault_in, fault_of};
 ghost use Rattle.al_history.specs.Made.{row_entries};
 ghost use Rattle.al_history.specs.Rules.{starts, commit_tag};
 ghost use Rattle.al_history.specs.Whole.{driver, IsLeast};
@@ -11,13 +13,13 @@ ghost use Rattle.al_history.proofs.Turns.{Went};
 ghost use Rattle.al_engine.specs.declared.sessions.Block.TheVariants as blocks;
 ghost use Rattle.al_engine.specs.Sessions.{state_of};
 ghost use Rattle.al_engine.specs.Ran.{ends_block};
-ghost use Rattle.al_engine.specs.Ended.{IsEnded};
+ghost use Rattle.al_engine.specs.Ended.{passed, IsEnded};
 ghost use Rattle.al_engine.specs.Kept.{parts_of, past_in, IsKept, IsSame};
 
-use crate::machine::{Machine, abort, commit, end_step, refuse};
+use crate::machine::{Machine, abort, commit, end_step, next_statement, refuse};
 use crate::sessions::{Block, Session};
 use crate::statements::{create_table, use_table};
-use al_history::{Cause, Entry, Level, Reply, Statement, Tag, Terms};
+use al_history::{Cause, Entry, Level, Reply, Script, SqlFault, Statement, Tag, Terms};
 use al_values::{NoMemory, Steps};
 use std::alloc::Global;
 use std::sync::ledger::Ledger;
@@ -38,23 +40,56 @@ pub fn go_on<L: Ledger>(
     requires goes { can_go_on (past_in machine.old) session ≡ true }
     ensures kept { OnOk result (IsKept terms.now (parts_of machine.new)) }
     ensures went { IfOk result (λ refused. Went terms.now session (past_in machine.old) (past_in machine.new) refused (driver (past_in machine.old)) (IsLeast (past_in machine.old) session)) }
-    ensures light { OnErr result (ends_block (statement_of terms.now seat.hand 0) ≡ false) }
+    ensures light { OnErr result (ends_block (statement_of terms.now seat.hand seat.done) ≡ false) }
     ensures err { OnErr result (IsSame (parts_of machine.old) (parts_of machine.new)) }
     ensures counted { steps.old ≤ steps.new }
     ensures bounded { steps.new ≤ steps.old + row_entries (past_in machine.old) }
 {
-    let statement = statement_at(terms, seat);
-    match statement {
-        Statement::Commit => {
-            end_block(terms, machine, session, seat, true);
-            Ok(false)
+    match script_at(terms, seat) {
+        Err(fault) => {
+            refuse(terms, machine, session, seat, text_cause(*fault));
+            Ok(true)
         }
-        Statement::Rollback => {
-            end_block(terms, machine, session, seat, false);
-            Ok(false)
-        }
-        other => go_on_in_block(alloc, terms, machine, session, seat, other, steps),
+        Ok(script) => match script.get(seat.done as usize) {
+            None => {
+                finish(terms, machine, session, seat);
+                Ok(false)
+            }
+            Some(Statement::Commit) => {
+                end_block(terms, machine, session, seat, true);
+                Ok(false)
+            }
+            Some(Statement::Rollback) => {
+                end_block(terms, machine, session, seat, false);
+                Ok(false)
+            }
+            Some(other) => go_on_in_block(alloc, terms, machine, session, seat, other, steps),
+        },
     }
+}
+
+/// Why a text that is no script is refused.
+fn text_cause(fault: SqlFault) -> Cause
+    ensures { Some result ≡ text_cause (Some fault) }
+{
+    match fault {
+        SqlFault::Syntax { at } => Cause::Syntax { at },
+        SqlFault::NotInProfile { at } => Cause::NotInProfile { at },
+    }
+}
+
+/// A step without a statement ends.
+fn finish(_terms: &Terms, machine: &mut Machine, session: u32, seat: Session)
+    requires known { session < _terms.now.scripts.sessions }
+    requires kept { IsKept _terms.now (parts_of machine.old) }
+    requires seat { slice_get machine.old.sessions.items session ≡ Some seat }
+    requires goes { can_go_on (past_in machine.old) session ≡ true }
+    requires is_script { fault_of _terms.now seat.hand ≡ None }
+    requires none_left { statement_of _terms.now seat.hand seat.done ≡ None }
+    ensures kept { IsKept _terms.now (parts_of machine.new) }
+    ensures went { Went _terms.now session (past_in machine.old) (past_in machine.new) false (driver (past_in machine.old)) (IsLeast (past_in machine.old) session) }
+{
+    end_step(machine, session, seat);
 }
 
 /// Goes on with a statement that isn't COMMIT or ROLLBACK: in a failed block it is refused, and where no transaction is open one
@@ -72,7 +107,7 @@ fn go_on_in_block<L: Ledger>(
     requires kept { IsKept terms.now (parts_of machine.old) }
     requires seat { slice_get machine.old.sessions.items session ≡ Some seat }
     requires goes { can_go_on (past_in machine.old) session ≡ true }
-    requires statement { statement_of terms.now seat.hand 0 ≡ Some statement.now }
+    requires statement { statement_of terms.now seat.hand seat.done ≡ Some statement.now }
     requires goes_on { starts NoBlock statement.now ≡ true }
     ensures kept { OnOk result (IsKept terms.now (parts_of machine.new)) }
     ensures went { IfOk result (λ refused. Went terms.now session (past_in machine.old) (past_in machine.new) refused (driver (past_in machine.old)) (IsLeast (past_in machine.old) session)) }
@@ -110,7 +145,7 @@ fn run<L: Ledger>(
     requires seat { slice_get machine.old.sessions.items session ≡ Some seat }
     requires goes { can_go_on (past_in machine.old) session ≡ true }
     requires in_xact { seat.xact ≡ Some xact }
-    requires statement { statement_of terms.now seat.hand 0 ≡ Some statement.now }
+    requires statement { statement_of terms.now seat.hand seat.done ≡ Some statement.now }
     requires goes_on { starts NoBlock statement.now ≡ true }
     ensures kept { OnOk result (IsKept terms.now (parts_of machine.new)) }
     ensures went { IfOk result (λ refused. Went terms.now session (past_in machine.old) (past_in machine.new) refused (driver (past_in machine.old)) (IsLeast (past_in machine.old) session)) }
@@ -133,14 +168,15 @@ fn run<L: Ledger>(
     }
 }
 
-/// The one statement of a session's step in hand.
-fn statement_at(terms: &Terms, seat: Session) -> &Statement
-    requires { IsSome (statement_of terms.now seat.hand 0) }
-    ensures { statement_of terms.now seat.hand 0 ≡ Some result.now }
+/// The script of a session's step in hand, or why its text is none.
+fn script_at(terms: &Terms, seat: Session) -> &Result<Script, SqlFault>
+    requires { IsSome (option_and_then (λ block. slice_get terms.now.scripts.blocks block) seat.hand) }
+    ensures fault { fault_of terms.now seat.hand ≡ fault_in result.now }
+    ensures statements { (n : ℕ) → statement_of terms.now seat.hand n ≡ statement_in result.now n }
 {
     let block = seat.hand.unwrap();
     let block = terms.scripts.blocks.get(block as usize).unwrap();
-    block.script.get(0).unwrap()
+    &block.script
 }
 
 /// A transaction begins.
@@ -149,7 +185,7 @@ fn begin(_terms: &Terms, machine: &mut Machine, session: u32, seat: Session) -> 
     requires kept { IsKept _terms.now (parts_of machine.old) }
     requires seat { slice_get machine.old.sessions.items session ≡ Some seat }
     requires goes { can_go_on (past_in machine.old) session ≡ true }
-    requires statement { option_map (starts (state_of seat.block)) (statement_of _terms.now seat.hand 0) ≡ Some true }
+    requires statement { option_map (starts (state_of seat.block)) (statement_of _terms.now seat.hand seat.done) ≡ Some true }
     requires none_open { seat.xact ≡ None }
     ensures kept { OnOk result (IsKept _terms.now (parts_of machine.new)) }
     ensures went { OnOk result (Went _terms.now session (past_in machine.old) (past_in machine.new) false (driver (past_in machine.old)) (IsLeast (past_in machine.old) session)) }
@@ -210,7 +246,7 @@ fn begin_block(_terms: &Terms, machine: &mut Machine, session: u32, seat: Sessio
     requires seat { slice_get machine.old.sessions.items session ≡ Some seat }
     requires goes { can_go_on (past_in machine.old) session ≡ true }
     requires in_xact { IsSome seat.xact }
-    requires statement { statement_of _terms.now seat.hand 0 ≡ Some statements.Begin }
+    requires statement { statement_of _terms.now seat.hand seat.done ≡ Some statements.Begin }
     ensures kept { IsKept _terms.now (parts_of machine.new) }
     ensures went { Went _terms.now session (past_in machine.old) (past_in machine.new) false (driver (past_in machine.old)) (IsLeast (past_in machine.old) session) }
 {
@@ -220,7 +256,7 @@ fn begin_block(_terms: &Terms, machine: &mut Machine, session: u32, seat: Sessio
         reply: Reply::Tag { tag, count: 0 },
     });
     let block = opened(seat.block);
-    end_step(machine, session, Session { block, ..seat });
+    pass(machine, session, Session { block, ..seat });
 }
 
 /// COMMIT or ROLLBACK is done: the session's open transaction ends, where it has one, and its block.
@@ -229,7 +265,7 @@ fn end_block(_terms: &Terms, machine: &mut Machine, session: u32, seat: Session,
     requires kept { IsKept _terms.now (parts_of machine.old) }
     requires seat { slice_get machine.old.sessions.items session ≡ Some seat }
     requires goes { can_go_on (past_in machine.old) session ≡ true }
-    requires statement { statement_of _terms.now seat.hand 0 ≡ Some (cond commits statements.Commit statements.Rollback) }
+    requires statement { statement_of _terms.now seat.hand seat.done ≡ Some (cond commits statements.Commit statements.Rollback) }
     ensures kept { IsKept _terms.now (parts_of machine.new) }
     ensures went { Went _terms.now session (past_in machine.old) (past_in machine.new) false (driver (past_in machine.old)) (IsLeast (past_in machine.old) session) }
 {
@@ -239,7 +275,27 @@ fn end_block(_terms: &Terms, machine: &mut Machine, session: u32, seat: Session,
         session,
         reply: Reply::Tag { tag, count: 0 },
     });
-    end_step(machine, session, out_of_block(seat));
+    pass(machine, session, out_of_block(seat));
+}
+
+/// The step goes on with its next statement, or ends, where none is left.
+fn pass(machine: &mut Machine, session: u32, seat: Session)
+    requires known { session < length machine.old.sessions.items }
+    requires room { 0 < machine.old.journal.room }
+    requires few { seat.done + seat.left < 2 ^ 32 }
+    ensures past { past_in machine.new ≡ cond (nat_lt 1 seat.left) (past_in machine.old) (End session ∷ past_in machine.old) }
+    ensures sessions { machine.new.sessions.items ≡ slice_set machine.old.sessions.items session (passed seat) }
+    ensures room { machine.new.journal.room + cond (nat_lt 1 seat.left) 0 1 ≡ machine.old.journal.room }
+    ensures tables { machine.new.tables.items ≡ machine.old.tables.items }
+    ensures locks { machine.new.locks ≡ machine.old.locks }
+    ensures committed { machine.new.committed.items ≡ machine.old.committed.items }
+    ensures weight { machine.new.weight ≡ machine.old.weight }
+{
+    if seat.left > 1 {
+        machine.sessions[session as usize] = next_statement(seat);
+    } else {
+        end_step(machine, session, seat);
+    }
 }
 
 /// The session once its transaction block has ended.
@@ -259,7 +315,7 @@ fn end_xact(_terms: &Terms, machine: &mut Machine, session: u32, seat: Session, 
     requires kept { IsKept _terms.now (parts_of machine.old) }
     requires seat { slice_get machine.old.sessions.items session ≡ Some seat }
     requires goes { can_go_on (past_in machine.old) session ≡ true }
-    requires statement { statement_of _terms.now seat.hand 0 ≡ Some (cond commits statements.Commit statements.Rollback) }
+    requires statement { statement_of _terms.now seat.hand seat.done ≡ Some (cond commits statements.Commit statements.Rollback) }
     ensures { IsEnded _terms.now (parts_of machine.new) session seat (past_in machine.old) commits }
 {
     match seat.xact {

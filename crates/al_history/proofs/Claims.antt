@@ -13,7 +13,7 @@ use Rattle.al_history.specs.declared.statement.Terms.{Terms}
 use Rattle.al_history.specs.Past.{Past}
 use Rattle.al_history.specs.Fate.{is_that}
 use Rattle.al_history.specs.Hand.{xact_of, session_of}
-use Rattle.al_history.specs.Locks.{Claim, claim, same_claim, without, held, waiting, in_way, grantable, is_held}
+use Rattle.al_history.specs.Locks.{Claim, claim, same_claim, without, without_claim, held, waiting, in_way, grantable, is_held}
 use Rattle.al_history.specs.Legal.{Legal}
 use Rattle.al_history.proofs.Pasts.{if_same}
 use Rattle.al_history.proofs.Makers.{Each}
@@ -112,6 +112,27 @@ held_besides s (u ∷ claims) c other there = by_test (u.session == s) refl (or_
   by_test false own (inl same) more = or_left (same_claim c u) (is_held (without s claims) c) same
   by_test false own (inr rest) more = or_right (same_claim c u) (is_held (without s claims) c) (more rest)
 
+-- what is left without a claim is another
+pub held_but : (d : Claim) (claims : List Claim) (c : Claim) → is_held (without_claim d claims) c ≡ true → (is_held claims c ≡ true) × (same_claim d c ≡ false)
+held_but d [] c there = absurd cc
+held_but d (u ∷ claims) c there = by_test (same_claim d u) refl there (λ h. held_but d claims c h) where
+  by_claim : same_claim d u ≡ false → (same_claim c u ≡ true) ⊎ (is_held (without_claim d claims) c ≡ true) → (is_held (without_claim d claims) c ≡ true → (is_held claims c ≡ true) × (same_claim d c ≡ false)) → (is_held (u ∷ claims) c ≡ true) × (same_claim d c ≡ false)
+  by_claim other (inl same) more = (or_left (same_claim c u) (is_held claims c) same, rw (← one_claim c u same) other)
+  by_claim other (inr rest) more = (or_right (same_claim c u) (is_held claims c) (more rest).0, (more rest).1)
+
+  by_test : (b : Bool) → same_claim d u ≡ b → is_held (cond b (without_claim d claims) (u ∷ without_claim d claims)) c ≡ true → (is_held (without_claim d claims) c ≡ true → (is_held claims c ≡ true) × (same_claim d c ≡ false)) → (is_held (u ∷ claims) c ≡ true) × (same_claim d c ≡ false)
+  by_test true own there more = (or_right (same_claim c u) (is_held claims c) (more there).0, (more there).1)
+  by_test false own there more = by_claim own (or_cases (same_claim c u) (is_held (without_claim d claims) c) there) more
+
+pub held_beside : (d : Claim) (claims : List Claim) (c : Claim) → same_claim d c ≡ false → is_held claims c ≡ true → is_held (without_claim d claims) c ≡ true
+held_beside d [] c other there = absurd cc
+held_beside d (u ∷ claims) c other there = by_test (same_claim d u) refl (or_cases (same_claim c u) (is_held claims c) there) (λ h. held_beside d claims c other h) where
+  by_test : (b : Bool) → same_claim d u ≡ b → (same_claim c u ≡ true) ⊎ (is_held claims c ≡ true) → (is_held claims c ≡ true → is_held (without_claim d claims) c ≡ true) → is_held (cond b (without_claim d claims) (u ∷ without_claim d claims)) c ≡ true
+  by_test true own (inl same) more = let not_own : same_claim d u ≡ false = rw (one_claim c u same) other in absurd cc
+  by_test true own (inr rest) more = more rest
+  by_test false own (inl same) more = or_left (same_claim c u) (is_held (without_claim d claims) c) same
+  by_test false own (inr rest) more = or_right (same_claim c u) (is_held (without_claim d claims) c) (more rest)
+
 -- what holds of what is there holds of each
 pub each_claim : (P : Claim → Type 0) (claims : List Claim) → ((c : Claim) → is_held claims c ≡ true → P c) → Each P claims
 each_claim P [] there = tt
@@ -170,7 +191,7 @@ waiting_open terms [] legal c there = absurd cc
 waiting_open terms (Start r level ∷ past) legal c there = open_start (r == c.session) _ _ (waiting_open terms past legal.1 c there)
 waiting_open terms (Wait x (wants.Table table mode) ∷ past) legal c there = open_push past (waiting past) (claim past x table mode) (waiting_open terms past legal.1) (some_is legal.0.rule.open_xact) c there
 waiting_open terms (Wait x (wants.Ends y) ∷ past) legal c there = waiting_open terms past legal.1 c there
-waiting_open terms (Lock x table mode ∷ past) legal c there = waiting_open terms past legal.1 c (held_left (session_of past x) (waiting past) c there).0
+waiting_open terms (Lock x table mode ∷ past) legal c there = waiting_open terms past legal.1 c (held_but (claim past x table mode) (waiting past) c there).0
 waiting_open terms (Commit x ∷ past) legal c there = open_left terms past x (waiting past) legal.1 (waiting_open terms past legal.1) c there
 waiting_open terms (Abort x ∷ past) legal c there = open_left terms past x (waiting past) legal.1 (waiting_open terms past legal.1) c there
 waiting_open terms (e ∷ past) legal c there = waiting_open terms past legal.1 c there

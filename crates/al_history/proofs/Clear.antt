@@ -8,8 +8,8 @@ use Rattle.al_history.specs.declared.statement.Statement.{Statement}
 use Rattle.al_history.specs.declared.statement.Terms.{Terms}
 use Rattle.al_history.specs.Past.{Past}
 use Rattle.al_history.specs.Database.{Table, Database, named}
-use Rattle.al_history.specs.Hand.{in_hand, xact_of, look_of, acts_of, block_state}
-use Rattle.al_history.specs.Cause.{used_name, name_cause, twice_column, create_cause, count_cause, cause_at, cancel_cause, first_of, block_cause, judged_cause, cause_of}
+use Rattle.al_history.specs.Hand.{hand, fault_of, in_hand, xact_of, look_of, acts_of, block_state}
+use Rattle.al_history.specs.Cause.{used_name, name_cause, columns_cause, create_cause, count_cause, cause_at, cancel_cause, first_of, block_cause, text_cause, statement_cause, judged_cause, cause_of}
 
 pub rest_clear : (first cause : Option Cause) → first_of first cause ≡ None → cause ≡ None
 rest_clear None cause none = none
@@ -22,7 +22,8 @@ first_clear (Some c) cause none = absurd cc
 -- no cause of its place is true of it
 pub judged_clear : (terms : Terms) (past : Past) (s x : ℕ) (statement : Statement) → cause_of terms past s ≡ None → in_hand terms past s ≡ Some statement → xact_of past s ≡ Some x → cause_at terms past x statement (acts_of past s) (look_of past s) ≡ None
 judged_clear terms past s x statement none is own =
-    let judged : judged_cause terms past s ≡ None = rest_clear (cancel_cause past s) (judged_cause terms past s) none in
+    let any : judged_cause terms past s ≡ None = rest_clear (cancel_cause past s) (judged_cause terms past s) none in
+    let judged : statement_cause terms past s ≡ None = rest_clear (text_cause (fault_of terms (hand past s))) (statement_cause terms past s) any in
     rest_clear (block_cause (block_state past s) statement) _ (rw (is, own) at judged)
 
 -- the table that it uses is there
@@ -39,7 +40,7 @@ table_there statement db name uses none = by_table (named db name) refl (rw uses
 -- a new table's name isn't there
 pub name_free : (name : List ℕ) (columns : List (List ℕ)) (db : Database) → create_cause name columns None db ≡ None → is_some (named db name) ≡ false
 name_free name columns db none = by_test (is_some (named db name)) none where
-  by_test : (b : Bool) → cond b (Some (causes.TwiceTable name)) (twice_column [] columns) ≡ None → b ≡ false
+  by_test : (b : Bool) → cond b (Some (causes.TwiceTable name)) (columns_cause [] columns) ≡ None → b ≡ false
   by_test true none = absurd cc
   by_test false none = refl
 

@@ -1,3 +1,5 @@
+pub mod Agenda
+pub mod Implicit
 pub mod Claims
 pub mod Clear
 pub mod Counts

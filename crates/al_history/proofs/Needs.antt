@@ -4,14 +4,14 @@ use Rattle.std.specs.Prelude.{◌++◌, Ok, Err, option_and_then}
 use Rattle.al_values.specs.declared.scalar.Value.{Value}
 use Rattle.al_modes.specs.declared.mode.Mode.{Mode}
 use Rattle.al_modes.specs.declared.mode.Mode.TheVariants.{AccessShare, RowExclusive, AccessExclusive}
-use Rattle.al_history.specs.declared.entry.Cause.TheVariants as causes
+use Rattle.al_history.specs.declared.entry.Cause.{Cause}
 use Rattle.al_history.specs.declared.statement.Column.{Column}
 use Rattle.al_history.specs.declared.statement.Statement.{Statement}
 use Rattle.al_history.specs.declared.statement.Statement.TheVariants as statements
 use Rattle.al_history.specs.declared.statement.Terms.{Terms}
 use Rattle.al_history.specs.Past.{Past}
-use Rattle.al_history.specs.Database.{Table, Database, named, has_column}
-use Rattle.al_history.specs.Change.{shape_of, filled, alteration, Passes}
+use Rattle.al_history.specs.Database.{Table, Database, named}
+use Rattle.al_history.specs.Change.{shape_of, filled, column_cause, unless_refused, alteration, Passes}
 use Rattle.al_history.specs.Hand.{in_hand, session_of}
 use Rattle.al_history.specs.View.{latest}
 use Rattle.al_history.specs.Locks.{Claim, held, is_held}
@@ -53,14 +53,14 @@ pub record IsAddition (o : Option Statement) (db : Database) (table : ℕ) : Typ
   pub is : o ≡ Some (statements.AddColumn name column)
   pub found : named db name ≡ Some t
   pub number : table ≡ t.number
-  pub absent : has_column t.columns column.name ≡ false
+  pub absent : column_cause column.name t.columns ≡ None
 
 -- where the command isn't refused the column isn't there
-new_column : (column : Column) (t : Table) (db : Database) → Passes (alteration column t) db → has_column t.columns column.name ≡ false
-new_column column t db passes = by_test (has_column t.columns column.name) passes where
-  by_test : (b : Bool) → Passes (cond b (Err (causes.TwiceColumn column.name)) (Ok (record { columns = t.columns ++ column ∷ []; row_map = λ row. row ++ column.default ∷ []; tests = [] }))) db → b ≡ false
-  by_test true passes = absurd passes
-  by_test false passes = refl
+new_column : (column : Column) (t : Table) (db : Database) → Passes (alteration column t) db → column_cause column.name t.columns ≡ None
+new_column column t db passes = by_test (column_cause column.name t.columns) passes where
+  by_test : (o : Option Cause) → Passes (unless_refused o (record { columns = t.columns ++ column ∷ []; row_map = λ row. row ++ column.default ∷ []; tests = [] })) db → o ≡ None
+  by_test (Some cause) passes = absurd passes
+  by_test None passes = refl
 
 pub addition : (o : Option Statement) (db : Database) (table : ℕ) → Alters o db table → IsAddition o db table
 addition (Some (statements.AddColumn name column)) db table alters = by_table (named db name) refl alters where

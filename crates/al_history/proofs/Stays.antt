@@ -10,11 +10,11 @@ use Rattle.al_history.specs.declared.entry.Want.TheVariants as wants
 use Rattle.al_history.specs.Past.{Past}
 use Rattle.al_history.specs.Fate.{fate}
 use Rattle.al_history.specs.Hand.{hand, session_of}
-use Rattle.al_history.specs.Locks.{Claim, same_claim, waiting, entered, grantable, is_settled, is_held, is_waiting}
+use Rattle.al_history.specs.Locks.{Claim, claim, same_claim, waiting, entered, grantable, is_settled, is_held, is_waiting}
 use Rattle.al_history.specs.Waits.{wanted_by, is_open, can_go_on}
 use Rattle.al_history.specs.Whole.{IsLeast}
 use Rattle.al_history.proofs.Pasts.{if_same}
-use Rattle.al_history.proofs.Claims.{claim_itself, held_still, held_besides, true_of_none}
+use Rattle.al_history.proofs.Claims.{claim_itself, held_still, held_besides, held_beside, true_of_none}
 use Rattle.std.proofs.Common.{arith}
 
 abbrev its : ℕ → ℕ → Mode → Claim
@@ -49,7 +49,7 @@ wants_waits (Wait x want ∷ past) s table mode wanted = by_session (session_of 
       let same : session_of past x ≡ s = eqb-true _ _ own in
       rw (w, same) (in_queue (waiting past) (its s table mode))
   by_session false other is before = entered_still want (before is)
-wants_waits (Lock x t m ∷ past) s table mode wanted = let was = kept_want (session_of past x == s) _ _ wanted in held_besides (session_of past x) (waiting past) (its s table mode) (apart_from (session_of past x) s was.0) (wants_waits past s table mode was.1)
+wants_waits (Lock x t m ∷ past) s table mode wanted = let was = kept_want (session_of past x == s) _ _ wanted in held_beside (claim past x t m) (waiting past) (its s table mode) (rw (apart_from (session_of past x) s was.0) refl) (wants_waits past s table mode was.1)
 wants_waits (Commit x ∷ past) s table mode wanted = let was = kept_want (session_of past x == s) _ _ wanted in held_besides (session_of past x) (waiting past) (its s table mode) (apart_from (session_of past x) s was.0) (wants_waits past s table mode was.1)
 wants_waits (Abort x ∷ past) s table mode wanted = let was = kept_want (session_of past x == s) _ _ wanted in held_besides (session_of past x) (waiting past) (its s table mode) (apart_from (session_of past x) s was.0) (wants_waits past s table mode was.1)
 wants_waits (Give r block ∷ past) s table mode wanted = wants_waits past s table mode (kept_want (r == s) _ _ wanted).1

@@ -9,8 +9,8 @@ use Rattle.al_history.specs.declared.statement.Statement.{Statement}
 use Rattle.al_history.specs.declared.statement.Statement.TheVariants as statements
 use Rattle.al_history.specs.declared.statement.Terms.{Terms}
 use Rattle.al_history.specs.Past.{Past}
-use Rattle.al_history.specs.Database.{VersionedRow, Table, Database, named, has_table, has_row, has_column, with_table}
-use Rattle.al_history.specs.Change.{made, with_row, added, alteration, after_alteration, altered}
+use Rattle.al_history.specs.Database.{VersionedRow, Table, Database, named, has_table, has_row, with_table}
+use Rattle.al_history.specs.Change.{made, with_row, added, alteration, after_alteration, altered, column_cause}
 use Rattle.al_history.specs.Fate.{Fate, Open, Committed, Aborted, fate, is_that, Standing, Inside, Absent, standing, inside_if, outside_if}
 use Rattle.al_history.specs.Hand.{hand, session_of, statement_of}
 use Rattle.al_history.specs.View.{for_both, for_inside, view_by, latest, committed}
@@ -330,7 +330,7 @@ adds terms past f x table row fits can sound = by_seen (f x) refl where
   by_seen false seen = rw seen (sym (shown_unseen f table (kept_row (length past) x (sees past (Some x)) row) (store terms past) (λ t. refl) (other seen (store terms past))))
 
 -- a new column, as a reader of its maker sees it, and as another does
-slot_seen : (f : ℕ → Bool) (next l x : ℕ) (column : Column) (t : KeptTable) → f x ≡ true → IsSound l next t → has_column (shown_columns f t.slots) column.name ≡ false → shown_table f (record t { slots = t.slots ++ record { maker = x; column = column } ∷ [] }) ≡ after_alteration (alteration column (shown_table f t)) (shown_table f t)
+slot_seen : (f : ℕ → Bool) (next l x : ℕ) (column : Column) (t : KeptTable) → f x ≡ true → IsSound l next t → column_cause column.name (shown_columns f t.slots) ≡ None → shown_table f (record t { slots = t.slots ++ record { maker = x; column = column } ∷ [] }) ≡ after_alteration (alteration column (shown_table f t)) (shown_table f t)
 slot_seen f next l x column t seen sound absent = rw (absent, shown_columns_push, seen, rows_under_seen f t.slots (record { maker = x; column = column }) t.rows seen sound.rows_short) refl
 
 slot_unseen : (f : ℕ → Bool) (next l x : ℕ) (o : Option Statement) (t : KeptTable) → f x ≡ false → IsSound l next t → shown_table f (kept_slot o x t) ≡ shown_table f t
@@ -347,7 +347,7 @@ unseen_each : (f : ℕ → Bool) (next low x number : ℕ) (o : Option Statement
 unseen_each f next low x number o [] seen sound = tt
 unseen_each f next low x number o (t ∷ tables) seen sound = ((λ is. slot_unseen f next low x o t seen sound.0), unseen_each f next (t.number + 1) x number o tables seen sound.1)
 
-seen_each : (f : ℕ → Bool) (next low x number : ℕ) (column : Column) (tables : List KeptTable) → f x ≡ true → AreSound low next tables → EachOf number (λ t. f t.maker ≡ true → has_column (shown_columns f t.slots) column.name ≡ false) tables → EachOf number (λ t. f t.maker ≡ true → shown_table f (record t { slots = t.slots ++ record { maker = x; column = column } ∷ [] }) ≡ after_alteration (alteration column (shown_table f t)) (shown_table f t)) tables
+seen_each : (f : ℕ → Bool) (next low x number : ℕ) (column : Column) (tables : List KeptTable) → f x ≡ true → AreSound low next tables → EachOf number (λ t. f t.maker ≡ true → column_cause column.name (shown_columns f t.slots) ≡ None) tables → EachOf number (λ t. f t.maker ≡ true → shown_table f (record t { slots = t.slots ++ record { maker = x; column = column } ∷ [] }) ≡ after_alteration (alteration column (shown_table f t)) (shown_table f t)) tables
 seen_each f next low x number column [] seen sound each = tt
 seen_each f next low x number column (t ∷ tables) seen sound each = ((λ is maker. slot_seen f next low x column t seen sound.0 (each.0 is maker)), seen_each f next (t.number + 1) x number column tables seen sound.1 each.1)
 
@@ -359,7 +359,7 @@ kept_all number h (t ∷ tables) same = rw (same t, kept_all number h tables sam
   by_test true = refl
   by_test false = refl
 
-alters : (terms : Terms) (past : Past) (f : ℕ → Bool) (x table : ℕ) (o : Option Statement) → CanSee past f → AreSound 0 (length past) (store terms past) → (f x ≡ true → (name : List ℕ) (column : Column) → o ≡ Some (statements.AddColumn name column) → EachOf table (λ t. f t.maker ≡ true → has_column (shown_columns f t.slots) column.name ≡ false) (store terms past)) → for_both (stands f x) (altered o table (shown f (store terms past))) (shown f (store terms past)) ≡ shown f (with_kept table (kept_slot o x) (store terms past))
+alters : (terms : Terms) (past : Past) (f : ℕ → Bool) (x table : ℕ) (o : Option Statement) → CanSee past f → AreSound 0 (length past) (store terms past) → (f x ≡ true → (name : List ℕ) (column : Column) → o ≡ Some (statements.AddColumn name column) → EachOf table (λ t. f t.maker ≡ true → column_cause column.name (shown_columns f t.slots) ≡ None) (store terms past)) → for_both (stands f x) (altered o table (shown f (store terms past))) (shown f (store terms past)) ≡ shown f (with_kept table (kept_slot o x) (store terms past))
 alters terms past f x table o can sound absent = by_seen (f x) refl where
   by_statement : (q : Option Statement) → f x ≡ true → o ≡ q → altered q table (shown f (store terms past)) ≡ shown f (with_kept table (kept_slot q x) (store terms past))
   by_statement None seen is = rw (kept_all table (kept_slot None x) (store terms past) (λ t. refl)) refl

@@ -12,8 +12,8 @@ use Rattle.al_history.specs.declared.statement.Statement.{Statement}
 use Rattle.al_history.specs.declared.statement.Statement.TheVariants as statements
 use Rattle.al_history.specs.declared.statement.Terms.{Terms}
 use Rattle.al_history.specs.Past.{Past}
-use Rattle.al_history.specs.Database.{Table, same_name, named, has_column}
-use Rattle.al_history.specs.Change.{filled}
+use Rattle.al_history.specs.Database.{Table, same_name, named}
+use Rattle.al_history.specs.Change.{filled, column_cause}
 use Rattle.al_history.specs.Fate.{Fate, Open, Committed, Aborted, fate}
 use Rattle.al_history.specs.Hand.{hand, in_hand, statement_of, xact_of, session_of, look_of, acts_of}
 use Rattle.al_history.specs.Locks.{held, is_held}
@@ -113,7 +113,7 @@ alter_fits terms past x table statement rewritten legal fits rule = record { abs
   only : EachOf is.t.number (λ t. (sees past (Some x) t.maker ≡ true) × (shown_table (sees past (Some x)) t ≡ is.t)) (store terms past)
   only = found_only terms past x is.name is.t legal fits undecided is.found
 
-  absent_so : (name : List ℕ) (column : Column) → statement_of terms (hand past (session_of past x)) statement ≡ Some (statements.AddColumn name column) → has_column is.t.columns column.name ≡ false
+  absent_so : (name : List ℕ) (column : Column) → statement_of terms (hand past (session_of past x)) statement ≡ Some (statements.AddColumn name column) → column_cause column.name is.t.columns ≡ None
   absent_so name column same =
       let here : in_hand terms past (session_of past x) ≡ Some (statements.AddColumn name column) = rw rule.number at same in
       let one : ◌≡◌ {A = Option Statement} (Some (statements.AddColumn is.name is.column)) (Some (statements.AddColumn name column)) = sym is.is ∙ here in

@@ -1,6 +1,6 @@
 -- A turn of a session: a stage in which its statement goes on, and the tail that ends the statement.
 use Rattle.std.proofs.Common.{◌≡◌, ℕ, ◌+◌, ◌<◌, ◌≤◌, List, [], ◌∷◌, ◌++◌, length, refl, sym, ap, append_assoc, cond, true, false, Bool, None, arith, ◌∙◌, inl, inr}
-use Rattle.std.specs.Prelude.{◌==◌, ◌⊎◌}
+use Rattle.std.specs.Prelude.{◌==◌, ◌⊎◌, ◌&&◌, is_some, Option}
 use Rattle.al_values.specs.declared.scalar.Value.{Value}
 use Rattle.al_modes.specs.declared.level.Level.{Level}
 use Rattle.al_modes.specs.declared.mode.Mode.{Mode}
@@ -15,13 +15,13 @@ use Rattle.al_history.specs.declared.statement.Column.{Column}
 use Rattle.al_history.specs.declared.statement.Terms.{Terms}
 use Rattle.al_history.specs.Past.{Past}
 use Rattle.al_history.specs.Fate.{fate}
-use Rattle.al_history.specs.Hand.{hand, closed}
+use Rattle.al_history.specs.Hand.{hand, refused as told_refused, closed}
 use Rattle.al_history.specs.Locks.{is_settled, is_grant}
 use Rattle.al_history.specs.Made.{made_by, AreOf, Extends, row_entries}
 use Rattle.al_history.specs.Tail.{owed}
 use Rattle.al_history.specs.Waits.{can_go_on}
 use Rattle.al_history.specs.Legal.{Legal, MayCome}
-use Rattle.al_history.specs.Whole.{driver, failed_setup, or_else, of_setup, IsLeast, IsTurn, InTurn, Driven}
+use Rattle.al_history.specs.Whole.{driver, failed_setup, or_else, of_setup, Task, closes, left, IsLeast, IsTurn, InTurn, Driven}
 use Rattle.al_history.proofs.Doings.{Doing, doing, IsBy, made_so, others_stay}
 use Rattle.al_history.proofs.Comes.{unless}
 use Rattle.al_history.proofs.Pasts.{if_same}
@@ -55,31 +55,33 @@ pub record IsStep (e : Entry) : Type 0 where
   pub fate_same : (past : Past) (y : ℕ) → fate (e ∷ past) y ≡ fate past y
   pub drives_not : (past : Past) → driver (e ∷ past) ≡ driver past
   pub fails_not : (spec : Spec) (past : Past) → failed_setup spec (e ∷ past) ≡ failed_setup spec past
+  pub told_same : (past : Past) (r : ℕ) → told_refused (e ∷ past) r ≡ told_refused past r
+  pub left_same : (spec : Spec) (steps : List ℕ) (past : Past) → left spec steps (e ∷ past) ≡ left spec steps past
   pub in_turn : (terms : Terms) (past : Past) → IsTurn (owed terms past) past (made_by past e) → InTurn terms past e
 
 pub step_start : (s : ℕ) (level : Level) → IsStep (Start s level)
-step_start s level = record { hand_same = λ past r. refl; closed_same = λ past r. refl; fate_same = λ past y. refl; drives_not = λ past. refl; fails_not = λ spec past. refl; in_turn = λ terms past turn. turn }
+step_start s level = record { hand_same = λ past r. refl; closed_same = λ past r. refl; fate_same = λ past y. refl; drives_not = λ past. refl; fails_not = λ spec past. refl; told_same = λ past r. refl; left_same = λ spec steps past. refl; in_turn = λ terms past turn. turn }
 
 pub step_wait : (x : ℕ) (want : Want) → IsStep (Wait x want)
-step_wait x want = record { hand_same = λ past r. refl; closed_same = λ past r. refl; fate_same = λ past y. refl; drives_not = λ past. refl; fails_not = λ spec past. refl; in_turn = λ terms past turn. turn }
+step_wait x want = record { hand_same = λ past r. refl; closed_same = λ past r. refl; fate_same = λ past y. refl; drives_not = λ past. refl; fails_not = λ spec past. refl; told_same = λ past r. refl; left_same = λ spec steps past. refl; in_turn = λ terms past turn. turn }
 
 pub step_lock : (x table : ℕ) (mode : Mode) → IsStep (Lock x table mode)
-step_lock x table mode = record { hand_same = λ past r. refl; closed_same = λ past r. refl; fate_same = λ past y. refl; drives_not = λ past. refl; fails_not = λ spec past. refl; in_turn = λ terms past turn. unless (is_grant past (Lock x table mode)) _ turn }
+step_lock x table mode = record { hand_same = λ past r. refl; closed_same = λ past r. refl; fate_same = λ past y. refl; drives_not = λ past. refl; fails_not = λ spec past. refl; told_same = λ past r. refl; left_same = λ spec steps past. refl; in_turn = λ terms past turn. unless (is_grant past (Lock x table mode)) _ turn }
 
 pub step_look : (x : ℕ) → IsStep (Look x)
-step_look x = record { hand_same = λ past r. refl; closed_same = λ past r. refl; fate_same = λ past y. refl; drives_not = λ past. refl; fails_not = λ spec past. refl; in_turn = λ terms past turn. turn }
+step_look x = record { hand_same = λ past r. refl; closed_same = λ past r. refl; fate_same = λ past y. refl; drives_not = λ past. refl; fails_not = λ spec past. refl; told_same = λ past r. refl; left_same = λ spec steps past. refl; in_turn = λ terms past turn. turn }
 
 pub step_make : (x table : ℕ) (name : List ℕ) (shape : List Column) → IsStep (Make x table name shape)
-step_make x table name shape = record { hand_same = λ past r. refl; closed_same = λ past r. refl; fate_same = λ past y. refl; drives_not = λ past. refl; fails_not = λ spec past. refl; in_turn = λ terms past turn. turn }
+step_make x table name shape = record { hand_same = λ past r. refl; closed_same = λ past r. refl; fate_same = λ past y. refl; drives_not = λ past. refl; fails_not = λ spec past. refl; told_same = λ past r. refl; left_same = λ spec steps past. refl; in_turn = λ terms past turn. turn }
 
 pub step_add : (x table : ℕ) (row : List Value) → IsStep (Add x table row)
-step_add x table row = record { hand_same = λ past r. refl; closed_same = λ past r. refl; fate_same = λ past y. refl; drives_not = λ past. refl; fails_not = λ spec past. refl; in_turn = λ terms past turn. turn }
+step_add x table row = record { hand_same = λ past r. refl; closed_same = λ past r. refl; fate_same = λ past y. refl; drives_not = λ past. refl; fails_not = λ spec past. refl; told_same = λ past r. refl; left_same = λ spec steps past. refl; in_turn = λ terms past turn. turn }
 
 pub step_read : (x : ℕ) (names : List (List ℕ)) (rows : List (List Value)) → IsStep (Read x names rows)
-step_read x names rows = record { hand_same = λ past r. refl; closed_same = λ past r. refl; fate_same = λ past y. refl; drives_not = λ past. refl; fails_not = λ spec past. refl; in_turn = λ terms past turn. turn }
+step_read x names rows = record { hand_same = λ past r. refl; closed_same = λ past r. refl; fate_same = λ past y. refl; drives_not = λ past. refl; fails_not = λ spec past. refl; told_same = λ past r. refl; left_same = λ spec steps past. refl; in_turn = λ terms past turn. turn }
 
 pub step_alter : (x table statement : ℕ) (rewritten : List Rewritten) → IsStep (Alter x table statement rewritten)
-step_alter x table statement rewritten = record { hand_same = λ past r. refl; closed_same = λ past r. refl; fate_same = λ past y. refl; drives_not = λ past. refl; fails_not = λ spec past. refl; in_turn = λ terms past turn. turn }
+step_alter x table statement rewritten = record { hand_same = λ past r. refl; closed_same = λ past r. refl; fate_same = λ past y. refl; drives_not = λ past. refl; fails_not = λ spec past. refl; told_same = λ past r. refl; left_same = λ spec steps past. refl; in_turn = λ terms past turn. turn }
 
 -- From one past to another the session's statement went on, by so many entries of a row; nothing is owed, and it can go on.
 pub record Stage (terms : Terms) (s : ℕ) (old new : Past) (rows : ℕ) : Type 0 where
@@ -93,6 +95,8 @@ pub record Stage (terms : Terms) (s : ℕ) (old new : Past) (rows : ℕ) : Type 
   pub fates : (y : ℕ) → fate new y ≡ fate old y
   pub driven : driver new ≡ driver old
   pub failed : (spec : Spec) → failed_setup spec new ≡ failed_setup spec old
+  pub told : (r : ℕ) → told_refused new r ≡ told_refused old r
+  pub left_is : (spec : Spec) (steps : List ℕ) → left spec steps new ≡ left spec steps old
   pub rows_is : row_entries new ≡ row_entries old + rows
   pub least : IsLeast old s → IsLeast new s
   pub in_turn : IsLeast old s → Driven terms old → Driven terms new
@@ -109,6 +113,8 @@ stage_begins terms s past legal settled none = record {
   fates = λ y. refl;
   driven = refl;
   failed = λ spec. refl;
+  told = λ r. refl;
+  left_is = λ spec steps. refl;
   rows_is = omega arith;
   least = λ least. least;
   in_turn = λ least d. d;
@@ -129,12 +135,18 @@ stage_on terms s old mid rows more e st step by comes settled none goes one =
       fates = λ y. step.fate_same mid y ∙ st.fates y;
       driven = step.drives_not mid ∙ st.driven;
       failed = λ spec. step.fails_not spec mid ∙ st.failed spec;
+      told = λ r. step.told_same mid r ∙ st.told r;
+      left_is = λ spec steps. step.left_same spec steps mid ∙ st.left_is spec steps;
       rows_is = omega (arith, one, st.rows_is);
       least = λ least. least_stays mid (e ∷ mid) settled (step.fate_same mid) s (λ r other. (ap (λ (d : Doing). d.hand) (others r other), ap (λ (d : Doing). d.wants) (others r other))) goes (st.least least);
       in_turn = λ least d. (step.in_turn terms mid (rw (st.owed_is, made_so mid s e by) (st.least least)), st.in_turn least d);
     }
 
 -- ---- what a call did
+
+-- what is left for the driver, after the step in hand of this block was or wasn't refused
+abbrev pub left_after : Spec → Option ℕ → Bool → List Task → List Task
+left_after spec block refused tasks = cond (refused && is_some (of_setup spec block)) (closes spec) tasks
 
 -- From one past to another a call went on with the session's step: it tells whether the step was refused, and what the driver has
 -- done by then.
@@ -148,6 +160,8 @@ pub record Went (terms : Terms) (s : ℕ) (old new : Past) (refused : Bool) (dro
   pub closed_same : (r : ℕ) → closed new r ≡ closed old r
   pub driven : driver new ≡ drove
   pub failed : (spec : Spec) → failed_setup spec new ≡ cond refused (or_else (failed_setup spec old) (of_setup spec (hand old s))) (failed_setup spec old)
+  pub told : told_refused old s ≡ false → told_refused new s ≡ refused
+  pub left_is : (spec : Spec) (steps : List ℕ) → left spec steps new ≡ left_after spec (hand old s) refused (left spec steps old)
   pub one_row : row_entries new ≤ row_entries old + 1
   pub in_turn : turn → Driven terms old → Driven terms new
 
@@ -166,6 +180,8 @@ stage_went terms s old new rows st few more = record {
   closed_same = st.closed_same;
   driven = st.driven;
   failed = st.failed;
+  told = λ so. st.told s ∙ so;
+  left_is = st.left_is;
   one_row = omega (arith, st.rows_is, few);
   in_turn = st.in_turn;
 }
@@ -184,6 +200,8 @@ wait_went terms s old mid rows x want st few more by comes =
       closed_same = st.closed_same;
       driven = st.driven;
       failed = st.failed;
+      told = λ so. st.told s ∙ so;
+      left_is = st.left_is;
       one_row = omega (arith, st.rows_is, few);
       in_turn = λ least d. (rw (st.owed_is, by.session) (st.least least), st.in_turn least d);
     }
@@ -196,21 +214,23 @@ pub record IsTail (e : Entry) : Type 0 where
   pub drives_not : (past : Past) → driver (e ∷ past) ≡ driver past
   pub fails_not : (spec : Spec) (past : Past) → failed_setup spec (e ∷ past) ≡ failed_setup spec past
   pub rows_not : (past : Past) → row_entries (e ∷ past) ≡ row_entries past
+  pub told_same : (past : Past) (r : ℕ) → told_refused (e ∷ past) r ≡ told_refused past r
+  pub left_same : (spec : Spec) (steps : List ℕ) (past : Past) → left spec steps (e ∷ past) ≡ left spec steps past
 
 pub tail_done : (s : ℕ) (reply : Reply) → IsTail (Done s reply)
-tail_done s reply = record { closed_same = λ past r. refl; drives_not = λ past. refl; fails_not = λ spec past. refl; rows_not = λ past. refl }
+tail_done s reply = record { closed_same = λ past r. refl; drives_not = λ past. refl; fails_not = λ spec past. refl; rows_not = λ past. refl; told_same = λ past r. refl; left_same = λ spec steps past. refl }
 
 pub tail_commit : (x : ℕ) → IsTail (Commit x)
-tail_commit x = record { closed_same = λ past r. refl; drives_not = λ past. refl; fails_not = λ spec past. refl; rows_not = λ past. refl }
+tail_commit x = record { closed_same = λ past r. refl; drives_not = λ past. refl; fails_not = λ spec past. refl; rows_not = λ past. refl; told_same = λ past r. refl; left_same = λ spec steps past. refl }
 
 pub tail_abort : (x : ℕ) → IsTail (Abort x)
-tail_abort x = record { closed_same = λ past r. refl; drives_not = λ past. refl; fails_not = λ spec past. refl; rows_not = λ past. refl }
+tail_abort x = record { closed_same = λ past r. refl; drives_not = λ past. refl; fails_not = λ spec past. refl; rows_not = λ past. refl; told_same = λ past r. refl; left_same = λ spec steps past. refl }
 
 pub tail_lock : (x table : ℕ) (mode : Mode) → IsTail (Lock x table mode)
-tail_lock x table mode = record { closed_same = λ past r. refl; drives_not = λ past. refl; fails_not = λ spec past. refl; rows_not = λ past. refl }
+tail_lock x table mode = record { closed_same = λ past r. refl; drives_not = λ past. refl; fails_not = λ spec past. refl; rows_not = λ past. refl; told_same = λ past r. refl; left_same = λ spec steps past. refl }
 
 pub tail_end : (s : ℕ) → IsTail (End s)
-tail_end s = record { closed_same = λ past r. refl; drives_not = λ past. refl; fails_not = λ spec past. refl; rows_not = λ past. refl }
+tail_end s = record { closed_same = λ past r. refl; drives_not = λ past. refl; fails_not = λ spec past. refl; rows_not = λ past. refl; told_same = λ past r. refl; left_same = λ spec steps past. refl }
 
 -- A call has come into the tail of the session's statement.
 pub record Tail (terms : Terms) (s : ℕ) (old new : Past) (refused : Bool) (drove : List Entry) (turn : Type 0) : Type 0 where
@@ -221,6 +241,8 @@ pub record Tail (terms : Terms) (s : ℕ) (old new : Past) (refused : Bool) (dro
   pub closed_same : (r : ℕ) → closed new r ≡ closed old r
   pub driven : driver new ≡ drove
   pub failed : (spec : Spec) → failed_setup spec new ≡ cond refused (or_else (failed_setup spec old) (of_setup spec (hand old s))) (failed_setup spec old)
+  pub told : told_refused old s ≡ false → told_refused new s ≡ refused
+  pub left_is : (spec : Spec) (steps : List ℕ) → left spec steps new ≡ left_after spec (hand old s) refused (left spec steps old)
   pub one_row : row_entries new ≤ row_entries old + 1
   pub in_turn : turn → Driven terms old → Driven terms new
 
@@ -234,6 +256,8 @@ tail_begins terms s old mid rows e st few more tail hand_same by comes turn = re
   closed_same = λ r. tail.closed_same mid r ∙ st.closed_same r;
   driven = tail.drives_not mid ∙ st.driven;
   failed = λ spec. tail.fails_not spec mid ∙ st.failed spec;
+  told = λ so. tail.told_same mid s ∙ st.told s ∙ so;
+  left_is = λ spec steps. tail.left_same spec steps mid ∙ st.left_is spec steps;
   one_row = omega (arith, tail.rows_not mid, st.rows_is, few);
   in_turn = λ least d. (turn (st.least least), st.in_turn least d);
 }
@@ -248,6 +272,8 @@ tail_refuses terms s old mid rows cause st few more comes = record {
   closed_same = st.closed_same;
   driven = st.driven;
   failed = λ spec. rw (st.failed spec, st.hands s) refl;
+  told = λ so. rw (if_same s) refl;
+  left_is = λ spec steps. rw (st.left_is spec steps, st.hands s) refl;
   one_row = omega (arith, st.rows_is, few);
   in_turn = λ least d. (rw st.owed_is (st.least least), st.in_turn least d);
 }
@@ -262,6 +288,8 @@ tail_on terms s old mid refused drove turn e t tail hand_same by comes in_turn =
   closed_same = λ r. tail.closed_same mid r ∙ t.closed_same r;
   driven = tail.drives_not mid ∙ t.driven;
   failed = λ spec. tail.fails_not spec mid ∙ t.failed spec;
+  told = λ so. tail.told_same mid s ∙ t.told so;
+  left_is = λ spec steps. tail.left_same spec steps mid ∙ t.left_is spec steps;
   one_row = omega (arith, tail.rows_not mid, t.one_row);
   in_turn = λ its d. (in_turn, t.in_turn its d);
 }
@@ -280,6 +308,26 @@ tail_ends terms s old mid refused drove turn t comes in_turn =
       closed_same = t.closed_same;
       driven = t.driven;
       failed = t.failed;
+      told = t.told;
+      left_is = t.left_is;
       one_row = t.one_row;
       in_turn = λ its d. (in_turn, t.in_turn its d);
     }
+
+-- or goes on with the next statement
+pub tail_goes : (terms : Terms) (s : ℕ) (old new : Past) (drove : List Entry) (turn : Type 0) → Tail terms s old new false drove turn → Went terms s old new false drove turn
+tail_goes terms s old new drove turn t = record {
+  legal = t.legal;
+  extends = t.extends;
+  more = t.more;
+  hands = λ r other. t.hands r;
+  own = inr (t.hands s);
+  refused_ends = λ wrong. absurd (unrefused wrong);
+  closed_same = t.closed_same;
+  driven = t.driven;
+  failed = t.failed;
+  told = t.told;
+  left_is = t.left_is;
+  one_row = t.one_row;
+  in_turn = t.in_turn;
+}

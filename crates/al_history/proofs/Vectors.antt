@@ -1,5 +1,5 @@
 -- A whole run, entry by entry: a table is made and filled by the control session, and a session adds a column and reads.
-use Rattle.std.specs.Prelude.{◌≡◌, ℕ, zero, suc, List, [], ◌∷◌, ◌++◌, ◌<◌, ◌≤◌, ◌==◌, Bool, true, false, cond, Some, None, reverse, length, codes, pos, refl}
+use Rattle.std.specs.Prelude.{◌≡◌, ℕ, zero, suc, List, [], ◌∷◌, ◌++◌, ◌<◌, ◌≤◌, ◌==◌, Bool, true, false, cond, Some, None, reverse, length, codes, pos, refl, Ok}
 use Rattle.std.proofs.Common.{arith, inl}
 use Rattle.al_values.specs.declared.scalar.Value.{Value}
 use Rattle.al_values.specs.declared.scalar.Value.TheVariants as values
@@ -21,7 +21,7 @@ use Rattle.al_history.specs.Hand.{hand, closed}
 use Rattle.al_history.specs.View.{committed}
 use Rattle.al_history.specs.Legal.{IsLegal}
 use Rattle.al_history.specs.Whole.{IsIdle, Driven, IsWhole, failed_setup}
-use Rattle.al_history.proofs.VectorsRules.{◌▸◌, in_turn_seven, in_turn_eight, may_give, may_start, may_lock, may_look, may_act, may_make, may_add, may_read, may_alter, may_be_done, may_commit, may_end, may_close}
+use Rattle.al_history.proofs.VectorsRules.{◌▸◌, in_turn_seven, in_turn_eight, may_give, may_start, may_lock, may_look, may_act, may_make, may_add, may_read, may_alter, may_be_done, may_commit, may_end, may_close, no_more}
 
 -- names are bytes
 abbrev pub name_t : List ℕ
@@ -62,7 +62,7 @@ select = statements.Select name_t
 
 -- a block of one statement
 abbrev pub alone : ℕ → Statement → ScriptBlock
-alone s statement = record { session = s; script = statement ∷ [] }
+alone s statement = record { session = s; script = Ok (statement ∷ []) }
 
 -- these blocks for so many sessions, whose journal may weigh 100
 abbrev pub terms_of : ℕ → List ScriptBlock → Terms
@@ -157,51 +157,51 @@ pub create_is_legal : (more : List ScriptBlock) → IsLegal (terms_with more) en
 create_is_legal more =
     tt
     ▸ may_give (omega arith) refl refl refl refl tt
-    ▸ may_start refl refl refl tt
-    ▸ may_look refl refl refl refl refl refl tt tt
-    ▸ may_make (may_act refl refl refl refl refl) refl (refl, refl) refl refl tt
-    ▸ may_be_done refl refl tt
-    ▸ may_commit refl refl refl refl refl refl
-    ▸ may_end refl (inl refl) refl refl refl
+    ▸ may_start refl refl refl refl tt
+    ▸ may_look refl refl refl refl refl refl refl tt tt
+    ▸ may_make refl (may_act refl refl refl refl refl) refl (refl, refl) refl refl tt
+    ▸ may_be_done refl refl refl tt
+    ▸ may_commit refl refl refl refl refl refl refl
+    ▸ may_end refl refl (inl (no_more refl refl)) refl refl refl
 
 -- its row is added in another
 pub insert_is_legal : (more : List ScriptBlock) → IsLegal (filled_with more) ended_insert
 insert_is_legal more =
     create_is_legal (alone 0 insert ∷ more)
     ▸ may_give (omega arith) refl refl refl refl tt
-    ▸ may_start refl refl refl tt
-    ▸ may_lock refl refl refl refl refl refl refl tt tt
-    ▸ may_look refl refl refl refl refl refl tt tt
-    ▸ may_add (may_act refl refl refl refl refl) (refl, refl) refl tt tt
-    ▸ may_be_done refl refl tt
-    ▸ may_commit refl refl refl refl refl refl
-    ▸ may_end refl (inl refl) refl refl refl
+    ▸ may_start refl refl refl refl tt
+    ▸ may_lock refl refl refl refl refl refl refl refl tt tt
+    ▸ may_look refl refl refl refl refl refl refl tt tt
+    ▸ may_add refl (may_act refl refl refl refl refl) (refl, refl) refl tt tt
+    ▸ may_be_done refl refl refl tt
+    ▸ may_commit refl refl refl refl refl refl refl
+    ▸ may_end refl refl (inl (no_more refl refl)) refl refl refl
 
 -- another session adds a column
 pub alter_is_legal : IsLegal terms ended_alter
 alter_is_legal =
     insert_is_legal steps
     ▸ may_give (omega arith) refl refl refl refl tt
-    ▸ may_start refl refl refl tt
-    ▸ may_lock refl refl refl refl refl refl refl tt tt
-    ▸ may_look refl refl refl refl refl refl tt refl
-    ▸ may_alter (may_act refl refl refl refl refl) (refl, λ c there. absurd c.demand) refl refl tt refl
-    ▸ may_be_done refl refl tt
-    ▸ may_commit refl refl refl refl refl refl
-    ▸ may_end refl (inl refl) refl refl refl
+    ▸ may_start refl refl refl refl tt
+    ▸ may_lock refl refl refl refl refl refl refl refl tt tt
+    ▸ may_look refl refl refl refl refl refl refl tt refl
+    ▸ may_alter refl (may_act refl refl refl refl refl) (refl, λ c there. absurd c.demand) refl refl tt refl
+    ▸ may_be_done refl refl refl tt
+    ▸ may_commit refl refl refl refl refl refl refl
+    ▸ may_end refl refl (inl (no_more refl refl)) refl refl refl
 
 -- and reads the row with the default in the new column
 pub select_is_legal : IsLegal terms ended_select
 select_is_legal =
     alter_is_legal
     ▸ may_give (omega arith) refl refl refl refl tt
-    ▸ may_start refl refl refl tt
-    ▸ may_lock refl refl refl refl refl refl refl tt tt
-    ▸ may_look refl refl refl refl refl refl tt tt
-    ▸ may_read (may_act refl refl refl refl refl) (refl, refl) refl tt tt
-    ▸ may_be_done refl refl tt
-    ▸ may_commit refl refl refl refl refl refl
-    ▸ may_end refl (inl refl) refl refl refl
+    ▸ may_start refl refl refl refl tt
+    ▸ may_lock refl refl refl refl refl refl refl refl tt tt
+    ▸ may_look refl refl refl refl refl refl refl tt tt
+    ▸ may_read refl (may_act refl refl refl refl refl) (refl, refl) refl tt tt
+    ▸ may_be_done refl refl refl tt
+    ▸ may_commit refl refl refl refl refl refl refl
+    ▸ may_end refl refl (inl (no_more refl refl)) refl refl refl
 
 -- the whole journal is legal
 pub journal_is_legal : IsLegal terms journal

@@ -12,7 +12,7 @@ use Rattle.al_history.specs.declared.statement.Terms.{Terms}
 use Rattle.al_history.specs.View.{committed}
 use Rattle.al_history.specs.Legal.{IsLegal}
 use Rattle.al_history.proofs.Vectors.{terms_of, name_t, name_a, column_a, insert, alone}
-use Rattle.al_history.proofs.VectorsRules.{◌▸◌, commits, rolls_back, may_give, may_start, may_look, may_act, may_make, may_be_done, may_refuse, may_abort, may_cancel, may_end, may_close, false_true, some_none}
+use Rattle.al_history.proofs.VectorsRules.{◌▸◌, commits, rolls_back, may_give, may_start, may_look, may_act, may_make, may_be_done, may_refuse, may_abort, may_cancel, may_end, may_close, false_true, some_none, no_more}
 
 -- blocks of session 1: BEGIN, CREATE TABLE t (a integer), COMMIT, ROLLBACK, and an INSERT of t
 abbrev blocks : Terms
@@ -22,7 +22,7 @@ abbrev begun : List Entry
 begun = Give 1 0 ∷ Start 1 levels.ReadCommitted ∷ Done 1 (replies.Tag tags.Begin 0) ∷ End 1 ∷ []
 
 begun_is_legal : IsLegal blocks begun
-begun_is_legal = tt ▸ may_give (omega arith) refl refl refl refl tt ▸ may_start refl refl refl tt ▸ may_be_done refl refl tt ▸ may_end refl (inl refl) refl refl refl
+begun_is_legal = tt ▸ may_give (omega arith) refl refl refl refl tt ▸ may_start refl refl refl refl tt ▸ may_be_done refl refl refl tt ▸ may_end refl refl (inl (no_more refl refl)) refl refl refl
 
 abbrev made : List Entry
 made = begun ++ Give 1 1 ∷ Look 1 ∷ Make 1 6 name_t (column_a ∷ []) ∷ Done 1 (replies.Tag tags.CreateTable 0) ∷ End 1 ∷ []
@@ -32,10 +32,10 @@ made_is_legal : IsLegal blocks made
 made_is_legal =
     begun_is_legal
     ▸ may_give (omega arith) refl refl refl refl tt
-    ▸ may_look refl refl refl refl refl refl tt tt
-    ▸ may_make (may_act refl refl refl refl refl) refl (refl, refl) refl refl tt
-    ▸ may_be_done refl refl tt
-    ▸ may_end refl (inl refl) refl refl refl
+    ▸ may_look refl refl refl refl refl refl refl tt tt
+    ▸ may_make refl (may_act refl refl refl refl refl) refl (refl, refl) refl refl tt
+    ▸ may_be_done refl refl refl tt
+    ▸ may_end refl refl (inl (no_more refl refl)) refl refl refl
 
 -- nobody else sees the table yet
 not_committed : committed blocks (reverse made) ≡ []
@@ -46,9 +46,9 @@ committed_is_legal : IsLegal blocks (made ++ Give 1 2 ∷ Commit 1 ∷ Done 1 (r
 committed_is_legal =
     made_is_legal
     ▸ may_give (omega arith) refl refl refl refl tt
-    ▸ commits refl refl refl refl refl tt
-    ▸ may_be_done refl refl refl
-    ▸ may_end refl (inl refl) refl refl refl
+    ▸ commits refl refl refl refl refl refl tt
+    ▸ may_be_done refl refl refl refl
+    ▸ may_end refl refl (inl (no_more refl refl)) refl refl refl
 
 -- ROLLBACK, after which the table isn't there
 abbrev rolled : List Entry
@@ -58,9 +58,9 @@ rolled_back_is_legal : IsLegal blocks rolled
 rolled_back_is_legal =
     made_is_legal
     ▸ may_give (omega arith) refl refl refl refl tt
-    ▸ rolls_back refl refl refl tt
-    ▸ may_be_done refl refl refl
-    ▸ may_end refl (inl refl) refl refl refl
+    ▸ rolls_back refl refl refl refl tt
+    ▸ may_be_done refl refl refl refl
+    ▸ may_end refl refl (inl (no_more refl refl)) refl refl refl
 
 gone : committed blocks (reverse rolled) ≡ []
 gone = refl
@@ -73,25 +73,25 @@ failed_is_legal : IsLegal blocks failed
 failed_is_legal =
     begun_is_legal
     ▸ may_give (omega arith) refl refl refl refl tt
-    ▸ may_refuse refl refl tt
-    ▸ may_abort refl (inl refl) refl refl
-    ▸ may_end refl (inr refl) refl refl refl
+    ▸ may_refuse refl refl refl tt
+    ▸ may_abort refl refl (inl refl) refl refl
+    ▸ may_end refl refl (inr refl) refl refl refl
 
 -- then every statement is refused but the two that end it, BEGIN among them
 refused_in_failed_is_legal : IsLegal blocks (failed ++ Give 1 0 ∷ Refuse 1 (causes.BlockFailed 5) ∷ End 1 ∷ [])
 refused_in_failed_is_legal =
     failed_is_legal
     ▸ may_give (omega arith) refl refl refl refl tt
-    ▸ may_refuse refl refl tt
-    ▸ may_end refl (inr refl) refl refl refl
+    ▸ may_refuse refl refl refl tt
+    ▸ may_end refl refl (inr refl) refl refl refl
 
 -- and COMMIT rolls back
 commit_of_failed_is_legal : IsLegal blocks (failed ++ Give 1 2 ∷ Done 1 (replies.Tag tags.Rollback 0) ∷ End 1 ∷ [])
-commit_of_failed_is_legal = failed_is_legal ▸ may_give (omega arith) refl refl refl refl tt ▸ may_be_done refl refl tt ▸ may_end refl (inl refl) refl refl refl
+commit_of_failed_is_legal = failed_is_legal ▸ may_give (omega arith) refl refl refl refl tt ▸ may_be_done refl refl refl tt ▸ may_end refl refl (inl (no_more refl refl)) refl refl refl
 
 -- COMMIT where no transaction is open changes nothing
 idle_commit_is_legal : IsLegal blocks (Give 1 2 ∷ Done 1 (replies.Tag tags.Commit 0) ∷ End 1 ∷ [])
-idle_commit_is_legal = tt ▸ may_give (omega arith) refl refl refl refl tt ▸ may_be_done refl refl tt ▸ may_end refl (inl refl) refl refl refl
+idle_commit_is_legal = tt ▸ may_give (omega arith) refl refl refl refl tt ▸ may_be_done refl refl refl tt ▸ may_end refl refl (inl (no_more refl refl)) refl refl refl
 
 -- a step in a block is cancelled: the block fails, and its transaction is aborted
 cancelled_in_block_is_legal : IsLegal blocks (begun ++ Give 1 4 ∷ Cancel 1 ∷ Refuse 1 (causes.Cancelled 5) ∷ Abort 1 ∷ End 1 ∷ Give 1 4 ∷ Refuse 1 (causes.BlockFailed 6) ∷ [])
@@ -99,15 +99,15 @@ cancelled_in_block_is_legal =
     begun_is_legal
     ▸ may_give (omega arith) refl refl refl refl tt
     ▸ may_cancel refl refl tt
-    ▸ may_refuse refl refl refl
-    ▸ may_abort refl (inl refl) refl refl
-    ▸ may_end refl (inr refl) refl refl refl
+    ▸ may_refuse refl refl refl refl
+    ▸ may_abort refl refl (inl refl) refl refl
+    ▸ may_end refl refl (inr refl) refl refl refl
     ▸ may_give (omega arith) refl refl refl refl tt
-    ▸ may_refuse refl refl tt
+    ▸ may_refuse refl refl refl tt
 
 -- a session with an open block is closed: its transaction is aborted first
 closed_in_block_is_legal : IsLegal blocks (begun ++ Abort 1 ∷ Close 1 ∷ [])
-closed_in_block_is_legal = begun_is_legal ▸ may_abort refl (inr refl) refl tt ▸ may_close (omega arith) refl refl refl refl refl
+closed_in_block_is_legal = begun_is_legal ▸ may_abort refl refl (inr refl) refl tt ▸ may_close (omega arith) refl refl refl refl refl
 
 -- ---- what isn't legal
 

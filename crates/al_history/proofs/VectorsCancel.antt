@@ -15,19 +15,19 @@ cancelled_is_legal =
     tt
     ▸ may_give (omega arith) refl refl refl refl tt
     ▸ may_cancel refl refl tt
-    ▸ may_refuse refl refl refl
-    ▸ may_end refl (inr refl) refl refl refl
+    ▸ may_refuse refl refl refl refl
+    ▸ may_end refl refl (inr refl) refl refl refl
 
 -- in its transaction, which is aborted; that its table isn't there is no matter
 pub cancelled_in_transaction_is_legal : IsLegal (one_block insert) (Give 0 0 ∷ Start 0 levels.ReadCommitted ∷ Cancel 0 ∷ Refuse 0 (causes.Cancelled 2) ∷ Abort 1 ∷ End 0 ∷ [])
 cancelled_in_transaction_is_legal =
     tt
     ▸ may_give (omega arith) refl refl refl refl tt
-    ▸ may_start refl refl refl tt
+    ▸ may_start refl refl refl refl tt
     ▸ may_cancel refl refl tt
-    ▸ may_refuse refl refl refl
-    ▸ may_abort refl (inl refl) refl refl
-    ▸ may_end refl (inr refl) refl refl refl
+    ▸ may_refuse refl refl refl refl
+    ▸ may_abort refl refl (inl refl) refl refl
+    ▸ may_end refl refl (inr refl) refl refl refl
 
 -- a session with no step in hand is cancelled
 cancelled_idle : IsLegal (one_block insert) (Cancel 0 ∷ []) → ⊥

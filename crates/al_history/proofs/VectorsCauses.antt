@@ -1,5 +1,5 @@
 -- Statements that are refused, one for each cause, and a block of two statements.
-use Rattle.std.specs.Prelude.{◌≡◌, ℕ, zero, suc, List, [], ◌∷◌, ◌++◌, ◌≤◌, true, Some, reverse, codes, refl}
+use Rattle.std.specs.Prelude.{◌≡◌, ℕ, zero, suc, List, [], ◌∷◌, ◌++◌, ◌≤◌, true, Some, reverse, codes, refl, Ok}
 use Rattle.std.proofs.Common.{arith, inl, inr}
 use Rattle.al_values.specs.declared.scalar.Value.TheVariants as values
 use Rattle.al_modes.specs.declared.level.Level.TheVariants as levels
@@ -18,7 +18,7 @@ use Rattle.al_history.specs.View.{latest, committed}
 use Rattle.al_history.specs.Legal.{IsLegal}
 use Rattle.al_history.specs.Whole.{IsWhole, failed_setup}
 use Rattle.al_history.proofs.Vectors.{terms_of, name_t, name_a, name_b, int, column_a, insert, add_column, select, alone, steps, terms_with, spec_with, ended_create, create_is_legal, none_below, idle, rest_after_create, driven_create}
-use Rattle.al_history.proofs.VectorsRules.{◌▸◌, in_turn_six, may_give, may_start, may_lock, may_look, may_act, may_make, may_add, may_be_done, may_refuse, may_commit, may_abort, may_end, may_close}
+use Rattle.al_history.proofs.VectorsRules.{◌▸◌, in_turn_six, may_give, may_start, may_lock, may_look, may_act, may_make, may_add, may_be_done, may_refuse, may_commit, may_abort, may_end, may_close, no_more}
 
 -- the name u
 abbrev pub name_u : List ℕ
@@ -57,11 +57,11 @@ pub again_is_legal : IsLegal again ended_again
 again_is_legal =
     create_is_legal (alone 0 create_again ∷ steps)
     ▸ may_give (omega arith) refl refl refl refl tt
-    ▸ may_start refl refl refl tt
-    ▸ may_look refl refl refl refl refl refl tt tt
-    ▸ may_refuse refl refl tt
-    ▸ may_abort refl (inl refl) refl refl
-    ▸ may_end refl (inr refl) refl refl refl
+    ▸ may_start refl refl refl refl tt
+    ▸ may_look refl refl refl refl refl refl refl tt tt
+    ▸ may_refuse refl refl refl tt
+    ▸ may_abort refl refl (inl refl) refl refl
+    ▸ may_end refl refl (inr refl) refl refl refl
 
 -- then the sessions may be closed
 pub failed_is_legal : IsLegal again failed
@@ -102,11 +102,11 @@ pub created_twice_is_legal : IsLegal (one_block create_twice) (looked_twice ++ R
 created_twice_is_legal =
     tt
     ▸ may_give (omega arith) refl refl refl refl tt
-    ▸ may_start refl refl refl tt
-    ▸ may_look refl refl refl refl refl refl tt tt
-    ▸ may_refuse refl refl tt
-    ▸ may_abort refl (inl refl) refl refl
-    ▸ may_end refl (inr refl) refl refl refl
+    ▸ may_start refl refl refl refl tt
+    ▸ may_look refl refl refl refl refl refl refl tt tt
+    ▸ may_refuse refl refl refl tt
+    ▸ may_abort refl refl (inl refl) refl refl
+    ▸ may_end refl refl (inr refl) refl refl refl
 
 -- ALTER TABLE t ADD COLUMN a integer, in session 1
 abbrev pub add_again : Statement
@@ -123,12 +123,12 @@ pub added_again_is_legal : IsLegal added_again (looked_added ++ Refuse 1 (causes
 added_again_is_legal =
     create_is_legal (alone 1 add_again ∷ [])
     ▸ may_give (omega arith) refl refl refl refl tt
-    ▸ may_start refl refl refl tt
-    ▸ may_lock refl refl refl refl refl refl refl tt tt
-    ▸ may_look refl refl refl refl refl refl tt refl
-    ▸ may_refuse refl refl tt
-    ▸ may_abort refl (inl refl) refl refl
-    ▸ may_end refl (inr refl) refl refl refl
+    ▸ may_start refl refl refl refl tt
+    ▸ may_lock refl refl refl refl refl refl refl refl tt tt
+    ▸ may_look refl refl refl refl refl refl refl tt refl
+    ▸ may_refuse refl refl refl tt
+    ▸ may_abort refl refl (inl refl) refl refl
+    ▸ may_end refl refl (inr refl) refl refl refl
 
 abbrev pub started_one : List Entry
 started_one = Give 0 0 ∷ Start 0 levels.ReadCommitted ∷ []
@@ -141,30 +141,30 @@ pub insert_nowhere_is_legal : IsLegal (one_block insert) no_table
 insert_nowhere_is_legal =
     tt
     ▸ may_give (omega arith) refl refl refl refl tt
-    ▸ may_start refl refl refl tt
-    ▸ may_refuse refl refl tt
-    ▸ may_abort refl (inl refl) refl refl
-    ▸ may_end refl (inr refl) refl refl refl
+    ▸ may_start refl refl refl refl tt
+    ▸ may_refuse refl refl refl tt
+    ▸ may_abort refl refl (inl refl) refl refl
+    ▸ may_end refl refl (inr refl) refl refl refl
 
 -- a table is read that isn't there
 pub select_nowhere_is_legal : IsLegal (one_block select) no_table
 select_nowhere_is_legal =
     tt
     ▸ may_give (omega arith) refl refl refl refl tt
-    ▸ may_start refl refl refl tt
-    ▸ may_refuse refl refl tt
-    ▸ may_abort refl (inl refl) refl refl
-    ▸ may_end refl (inr refl) refl refl refl
+    ▸ may_start refl refl refl refl tt
+    ▸ may_refuse refl refl refl tt
+    ▸ may_abort refl refl (inl refl) refl refl
+    ▸ may_end refl refl (inr refl) refl refl refl
 
 -- a table is altered that isn't there
 pub alter_nowhere_is_legal : IsLegal (one_block add_column) no_table
 alter_nowhere_is_legal =
     tt
     ▸ may_give (omega arith) refl refl refl refl tt
-    ▸ may_start refl refl refl tt
-    ▸ may_refuse refl refl tt
-    ▸ may_abort refl (inl refl) refl refl
-    ▸ may_end refl (inr refl) refl refl refl
+    ▸ may_start refl refl refl refl tt
+    ▸ may_refuse refl refl refl tt
+    ▸ may_abort refl refl (inl refl) refl refl
+    ▸ may_end refl refl (inr refl) refl refl refl
 
 -- INSERT INTO t VALUES (1, 5)
 abbrev pub insert_two : Statement
@@ -181,19 +181,19 @@ pub count_is_legal : IsLegal counted (looked_counted ++ Refuse 0 (causes.Count 1
 count_is_legal =
     create_is_legal (alone 0 insert_two ∷ [])
     ▸ may_give (omega arith) refl refl refl refl tt
-    ▸ may_start refl refl refl tt
-    ▸ may_lock refl refl refl refl refl refl refl tt tt
-    ▸ may_look refl refl refl refl refl refl tt tt
-    ▸ may_refuse refl refl tt
-    ▸ may_abort refl (inl refl) refl refl
-    ▸ may_end refl (inr refl) refl refl refl
+    ▸ may_start refl refl refl refl tt
+    ▸ may_lock refl refl refl refl refl refl refl refl tt tt
+    ▸ may_look refl refl refl refl refl refl refl tt tt
+    ▸ may_refuse refl refl refl tt
+    ▸ may_abort refl refl (inl refl) refl refl
+    ▸ may_end refl refl (inr refl) refl refl refl
 
 -- CREATE TABLE t (a integer, b integer); and a second statement, in one block
 abbrev pub create_two : Statement
 create_two = statements.CreateTable name_t (name_a ∷ name_b ∷ [])
 
 abbrev pub pair : Statement → Terms
-pair second = terms_of 2 (record { session = 0; script = create_two ∷ second ∷ [] } ∷ [])
+pair second = terms_of 2 (record { session = 0; script = Ok (create_two ∷ second ∷ []) } ∷ [])
 
 abbrev pub made_two : List Entry
 made_two = looked_twice ++ Make 1 3 name_t (column_a ∷ record { name = name_b; default = values.Null } ∷ []) ∷ []
@@ -215,22 +215,22 @@ pub first_is_legal : (second : Statement) → IsLegal (pair second) done_first
 first_is_legal second =
     tt
     ▸ may_give (omega arith) refl refl refl refl tt
-    ▸ may_start refl refl refl tt
-    ▸ may_look refl refl refl refl refl refl tt tt
-    ▸ may_make (may_act refl refl refl refl refl) refl (refl, refl) refl refl tt
-    ▸ may_be_done refl refl tt
+    ▸ may_start refl refl refl refl tt
+    ▸ may_look refl refl refl refl refl refl refl tt tt
+    ▸ may_make refl (may_act refl refl refl refl refl) refl (refl, refl) refl refl tt
+    ▸ may_be_done refl refl refl tt
 
 -- the statements of a block are one transaction: the second finds what the first made, and they are committed together.
 -- The column that has no value gets its default, Null.
 pub pair_is_legal : IsLegal (pair insert) (done_second ++ Commit 1 ∷ End 0 ∷ [])
 pair_is_legal =
     first_is_legal insert
-    ▸ may_lock refl refl refl refl refl refl refl tt tt
-    ▸ may_look refl refl refl refl refl refl tt tt
-    ▸ may_add (may_act refl refl refl refl refl) (refl, refl) refl tt tt
-    ▸ may_be_done refl refl tt
-    ▸ may_commit refl refl refl refl refl refl
-    ▸ may_end refl (inl refl) refl refl refl
+    ▸ may_lock refl refl refl refl refl refl refl refl tt tt
+    ▸ may_look refl refl refl refl refl refl refl tt tt
+    ▸ may_add refl (may_act refl refl refl refl refl) (refl, refl) refl tt tt
+    ▸ may_be_done refl refl refl tt
+    ▸ may_commit refl refl refl refl refl refl refl
+    ▸ may_end refl refl (inl (no_more refl refl)) refl refl refl
 
 -- before the Commit nobody else finds the table
 pub nothing_committed : committed (pair insert) (reverse done_second) ≡ []
@@ -251,9 +251,9 @@ undone = done_first ++ Refuse 0 (causes.NoTable name_u) ∷ Abort 1 ∷ End 0 �
 pub undone_is_legal : IsLegal (pair insert_u) undone
 undone_is_legal =
     first_is_legal insert_u
-    ▸ may_refuse refl refl tt
-    ▸ may_abort refl (inl refl) refl refl
-    ▸ may_end refl (inr refl) refl refl refl
+    ▸ may_refuse refl refl refl tt
+    ▸ may_abort refl refl (inl refl) refl refl
+    ▸ may_end refl refl (inr refl) refl refl refl
 
 -- so what the first did is undone with it
 pub undone_is_empty : committed (pair insert_u) (reverse undone) ≡ []

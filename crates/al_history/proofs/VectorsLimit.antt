@@ -19,7 +19,7 @@ use Rattle.al_history.specs.Cause.{cause_of}
 use Rattle.al_history.specs.Waits.{is_blocked}
 use Rattle.al_history.specs.Legal.{IsLegal}
 use Rattle.al_history.proofs.Vectors.{name_t, name_a, name_b, int, column_a, column_b, create, insert, add_column, select, alone, looked_create, acted_create, ended_create}
-use Rattle.al_history.proofs.VectorsRules.{◌▸◌, commits, may_give, may_start, may_wait_for_lock, may_wait_for_end, may_lock, may_be_granted, may_look, may_act, may_make, may_add, may_read, may_alter, may_be_done, may_refuse, may_commit, may_abort, may_end, false_true, none_some, some_none, differ}
+use Rattle.al_history.proofs.VectorsRules.{◌▸◌, commits, may_give, may_start, may_wait_for_lock, may_wait_for_end, may_lock, may_be_granted, may_look, may_act, may_make, may_add, may_read, may_alter, may_be_done, may_refuse, may_commit, may_abort, may_end, false_true, none_some, some_none, differ, no_more}
 
 -- ---- what entries weigh
 
@@ -144,12 +144,12 @@ create_fits : (n : ℕ) → nat_le 1 n ≡ true → nat_le 3 n ≡ true → IsLe
 create_fits n look make =
     tt
     ▸ may_give (omega arith) refl refl refl refl tt
-    ▸ may_start refl refl refl tt
-    ▸ may_look refl refl refl refl (rw look refl) refl tt tt
-    ▸ may_make (may_act refl refl refl refl (rw make refl)) refl (refl, refl) refl refl tt
-    ▸ may_be_done refl refl tt
-    ▸ may_commit refl refl refl refl refl refl
-    ▸ may_end refl (inl refl) refl refl refl
+    ▸ may_start refl refl refl refl tt
+    ▸ may_look refl refl refl refl refl (rw look refl) refl tt tt
+    ▸ may_make refl (may_act refl refl refl refl (rw make refl)) refl (refl, refl) refl refl tt
+    ▸ may_be_done refl refl refl tt
+    ▸ may_commit refl refl refl refl refl refl refl
+    ▸ may_end refl refl (inl (no_more refl refl)) refl refl refl
 
 -- A SELECT comes with 4 more: its lock, its Look, and what it reads.
 abbrev select_started : List Entry
@@ -168,66 +168,66 @@ select_weighs : weight (reverse select_read) ≡ 7
 select_weighs = refl
 
 select_started_fits : (n : ℕ) → nat_le 1 n ≡ true → nat_le 3 n ≡ true → IsLegal (limited n) select_started
-select_started_fits n look make = create_fits n look make ▸ may_give (omega arith) refl refl refl refl tt ▸ may_start refl refl refl tt
+select_started_fits n look make = create_fits n look make ▸ may_give (omega arith) refl refl refl refl tt ▸ may_start refl refl refl refl tt
 
 -- a journal comes to its limit, and then ends with what weighs nothing
 full_is_legal : IsLegal (limited 7) (select_read ++ Done 2 (replies.Rows 11) ∷ Commit 8 ∷ End 2 ∷ [])
 full_is_legal =
     select_started_fits 7 refl refl
-    ▸ may_lock refl refl refl refl refl refl refl tt tt
-    ▸ may_look refl refl refl refl refl refl tt tt
-    ▸ may_read (may_act refl refl refl refl refl) (refl, refl) refl tt tt
-    ▸ may_be_done refl refl tt
-    ▸ may_commit refl refl refl refl refl refl
-    ▸ may_end refl (inl refl) refl refl refl
+    ▸ may_lock refl refl refl refl refl refl refl refl tt tt
+    ▸ may_look refl refl refl refl refl refl refl tt tt
+    ▸ may_read refl (may_act refl refl refl refl refl) (refl, refl) refl tt tt
+    ▸ may_be_done refl refl refl tt
+    ▸ may_commit refl refl refl refl refl refl refl
+    ▸ may_end refl refl (inl (no_more refl refl)) refl refl refl
 
 -- what it reads would be too heavy: the SELECT is refused after its Look,
 read_refused : IsLegal (limited 6) (select_looked ++ Refuse 2 (too_heavy 7) ∷ Abort 8 ∷ End 2 ∷ [])
 read_refused =
     select_started_fits 6 refl refl
-    ▸ may_lock refl refl refl refl refl refl refl tt tt
-    ▸ may_look refl refl refl refl refl refl tt tt
-    ▸ may_refuse refl refl tt
-    ▸ may_abort refl (inl refl) refl refl
-    ▸ may_end refl (inr refl) refl refl refl
+    ▸ may_lock refl refl refl refl refl refl refl refl tt tt
+    ▸ may_look refl refl refl refl refl refl refl tt tt
+    ▸ may_refuse refl refl refl tt
+    ▸ may_abort refl refl (inl refl) refl refl
+    ▸ may_end refl refl (inr refl) refl refl refl
 
 -- its Look would be too heavy,
 look_refused : IsLegal (limited 4) (select_locked ++ Refuse 2 (too_heavy 5) ∷ Abort 8 ∷ End 2 ∷ [])
 look_refused =
     select_started_fits 4 refl refl
-    ▸ may_lock refl refl refl refl refl refl refl tt tt
-    ▸ may_refuse refl refl tt
-    ▸ may_abort refl (inl refl) refl refl
-    ▸ may_end refl (inr refl) refl refl refl
+    ▸ may_lock refl refl refl refl refl refl refl refl tt tt
+    ▸ may_refuse refl refl refl tt
+    ▸ may_abort refl refl (inl refl) refl refl
+    ▸ may_end refl refl (inr refl) refl refl refl
 
 -- or its lock
 lock_refused : IsLegal (limited 3) (select_started ++ Refuse 2 (too_heavy 4) ∷ Abort 8 ∷ End 2 ∷ [])
 lock_refused =
     select_started_fits 3 refl refl
-    ▸ may_refuse refl refl tt
-    ▸ may_abort refl (inl refl) refl refl
-    ▸ may_end refl (inr refl) refl refl refl
+    ▸ may_refuse refl refl refl tt
+    ▸ may_abort refl refl (inl refl) refl refl
+    ▸ may_end refl refl (inr refl) refl refl refl
 
 -- a table would be too heavy: CREATE TABLE is refused after its Look,
 make_refused : IsLegal (limited 2) (looked_create ++ Refuse 0 (too_heavy 3) ∷ Abort 1 ∷ End 0 ∷ [])
 make_refused =
     tt
     ▸ may_give (omega arith) refl refl refl refl tt
-    ▸ may_start refl refl refl tt
-    ▸ may_look refl refl refl refl refl refl tt tt
-    ▸ may_refuse refl refl tt
-    ▸ may_abort refl (inl refl) refl refl
-    ▸ may_end refl (inr refl) refl refl refl
+    ▸ may_start refl refl refl refl tt
+    ▸ may_look refl refl refl refl refl refl refl tt tt
+    ▸ may_refuse refl refl refl tt
+    ▸ may_abort refl refl (inl refl) refl refl
+    ▸ may_end refl refl (inr refl) refl refl refl
 
 -- or before it
 first_look_refused : IsLegal (limited 0) (Give 0 0 ∷ Start 0 levels.ReadCommitted ∷ Refuse 0 (too_heavy 1) ∷ Abort 1 ∷ End 0 ∷ [])
 first_look_refused =
     tt
     ▸ may_give (omega arith) refl refl refl refl tt
-    ▸ may_start refl refl refl tt
-    ▸ may_refuse refl refl tt
-    ▸ may_abort refl (inl refl) refl refl
-    ▸ may_end refl (inr refl) refl refl refl
+    ▸ may_start refl refl refl refl tt
+    ▸ may_refuse refl refl refl tt
+    ▸ may_abort refl refl (inl refl) refl refl
+    ▸ may_end refl refl (inr refl) refl refl refl
 
 -- a row would be too heavy
 abbrev insert_looked : List Entry
@@ -237,12 +237,12 @@ add_refused : IsLegal (limited 6) (insert_looked ++ Refuse 2 (too_heavy 7) ∷ A
 add_refused =
     create_fits 6 refl refl
     ▸ may_give (omega arith) refl refl refl refl tt
-    ▸ may_start refl refl refl tt
-    ▸ may_lock refl refl refl refl refl refl refl tt tt
-    ▸ may_look refl refl refl refl refl refl tt tt
-    ▸ may_refuse refl refl tt
-    ▸ may_abort refl (inl refl) refl refl
-    ▸ may_end refl (inr refl) refl refl refl
+    ▸ may_start refl refl refl refl tt
+    ▸ may_lock refl refl refl refl refl refl refl refl tt tt
+    ▸ may_look refl refl refl refl refl refl refl tt tt
+    ▸ may_refuse refl refl refl tt
+    ▸ may_abort refl refl (inl refl) refl refl
+    ▸ may_end refl refl (inr refl) refl refl refl
 
 -- The rows that are there count for what is read:
 abbrev row_looked : List Entry
@@ -253,20 +253,20 @@ row_refused : IsLegal (limited 12) (row_looked ++ Refuse 2 (too_heavy 13) ∷ Ab
 row_refused =
     create_fits 12 refl refl
     ▸ may_give (omega arith) refl refl refl refl tt
-    ▸ may_start refl refl refl tt
-    ▸ may_lock refl refl refl refl refl refl refl tt tt
-    ▸ may_look refl refl refl refl refl refl tt tt
-    ▸ may_add (may_act refl refl refl refl refl) (refl, refl) refl tt tt
-    ▸ may_be_done refl refl tt
-    ▸ may_commit refl refl refl refl refl refl
-    ▸ may_end refl (inl refl) refl refl refl
+    ▸ may_start refl refl refl refl tt
+    ▸ may_lock refl refl refl refl refl refl refl refl tt tt
+    ▸ may_look refl refl refl refl refl refl refl tt tt
+    ▸ may_add refl (may_act refl refl refl refl refl) (refl, refl) refl tt tt
+    ▸ may_be_done refl refl refl tt
+    ▸ may_commit refl refl refl refl refl refl refl
+    ▸ may_end refl refl (inl (no_more refl refl)) refl refl refl
     ▸ may_give (omega arith) refl refl refl refl tt
-    ▸ may_start refl refl refl tt
-    ▸ may_lock refl refl refl refl refl refl refl tt tt
-    ▸ may_look refl refl refl refl refl refl tt tt
-    ▸ may_refuse refl refl tt
-    ▸ may_abort refl (inl refl) refl refl
-    ▸ may_end refl (inr refl) refl refl refl
+    ▸ may_start refl refl refl refl tt
+    ▸ may_lock refl refl refl refl refl refl refl refl tt tt
+    ▸ may_look refl refl refl refl refl refl refl tt tt
+    ▸ may_refuse refl refl refl tt
+    ▸ may_abort refl refl (inl refl) refl refl
+    ▸ may_end refl refl (inr refl) refl refl refl
 
 -- those that were there at the Look, though another has come since
 abbrev row_since : List Entry
@@ -276,17 +276,17 @@ row_since = select_looked ++ Give 1 9 ∷ Start 1 levels.ReadCommitted ∷ Lock 
 read_as_at_look : IsLegal (limited 11) (row_since ++ Read 8 (name_a ∷ []) [] ∷ [])
 read_as_at_look =
     select_started_fits 11 refl refl
-    ▸ may_lock refl refl refl refl refl refl refl tt tt
-    ▸ may_look refl refl refl refl refl refl tt tt
+    ▸ may_lock refl refl refl refl refl refl refl refl tt tt
+    ▸ may_look refl refl refl refl refl refl refl tt tt
     ▸ may_give (omega arith) refl refl refl refl tt
-    ▸ may_start refl refl refl tt
-    ▸ may_lock refl refl refl refl refl refl refl tt tt
-    ▸ may_look refl refl refl refl refl refl tt tt
-    ▸ may_add (may_act refl refl refl refl refl) (refl, refl) refl tt tt
-    ▸ may_be_done refl refl tt
-    ▸ may_commit refl refl refl refl refl refl
-    ▸ may_end refl (inl refl) refl refl refl
-    ▸ may_read (may_act refl refl refl refl refl) (refl, refl) refl tt tt
+    ▸ may_start refl refl refl refl tt
+    ▸ may_lock refl refl refl refl refl refl refl refl tt tt
+    ▸ may_look refl refl refl refl refl refl refl tt tt
+    ▸ may_add refl (may_act refl refl refl refl refl) (refl, refl) refl tt tt
+    ▸ may_be_done refl refl refl tt
+    ▸ may_commit refl refl refl refl refl refl refl
+    ▸ may_end refl refl (inl (no_more refl refl)) refl refl refl
+    ▸ may_read refl (may_act refl refl refl refl refl) (refl, refl) refl tt tt
 
 -- an ALTER TABLE would be too heavy
 abbrev alter_looked : List Entry
@@ -296,22 +296,22 @@ alter_refused : IsLegal (limited 5) (alter_looked ++ Refuse 2 (too_heavy 6) ∷ 
 alter_refused =
     create_fits 5 refl refl
     ▸ may_give (omega arith) refl refl refl refl tt
-    ▸ may_start refl refl refl tt
-    ▸ may_lock refl refl refl refl refl refl refl tt tt
-    ▸ may_look refl refl refl refl refl refl tt refl
-    ▸ may_refuse refl refl tt
-    ▸ may_abort refl (inl refl) refl refl
-    ▸ may_end refl (inr refl) refl refl refl
+    ▸ may_start refl refl refl refl tt
+    ▸ may_lock refl refl refl refl refl refl refl refl tt tt
+    ▸ may_look refl refl refl refl refl refl refl tt refl
+    ▸ may_refuse refl refl refl tt
+    ▸ may_abort refl refl (inl refl) refl refl
+    ▸ may_end refl refl (inr refl) refl refl refl
 
 -- What is found of names comes first: a table that isn't there is told, though nothing may weigh anything,
 no_table_first : IsLegal (limited 0) (Give 2 5 ∷ Start 2 levels.ReadCommitted ∷ Refuse 2 (causes.NoTable name_t) ∷ Abort 1 ∷ End 2 ∷ [])
 no_table_first =
     tt
     ▸ may_give (omega arith) refl refl refl refl tt
-    ▸ may_start refl refl refl tt
-    ▸ may_refuse refl refl tt
-    ▸ may_abort refl (inl refl) refl refl
-    ▸ may_end refl (inr refl) refl refl refl
+    ▸ may_start refl refl refl refl tt
+    ▸ may_refuse refl refl refl tt
+    ▸ may_abort refl refl (inl refl) refl refl
+    ▸ may_end refl refl (inr refl) refl refl refl
 
 -- and so is a table that is there already
 abbrev create_looked : List Entry
@@ -321,11 +321,11 @@ name_first : IsLegal (limited 4) (create_looked ++ Refuse 2 (causes.TwiceTable n
 name_first =
     create_fits 4 refl refl
     ▸ may_give (omega arith) refl refl refl refl tt
-    ▸ may_start refl refl refl tt
-    ▸ may_look refl refl refl refl refl refl tt tt
-    ▸ may_refuse refl refl tt
-    ▸ may_abort refl (inl refl) refl refl
-    ▸ may_end refl (inr refl) refl refl refl
+    ▸ may_start refl refl refl refl tt
+    ▸ may_look refl refl refl refl refl refl refl tt tt
+    ▸ may_refuse refl refl refl tt
+    ▸ may_abort refl refl (inl refl) refl refl
+    ▸ may_end refl refl (inr refl) refl refl refl
 
 -- ---- waits
 
@@ -346,25 +346,25 @@ asked_fits : (n : ℕ) → nat_le 1 n ≡ true → nat_le 3 n ≡ true → nat_l
 asked_fits n first make lock look alter =
     create_fits n first make
     ▸ may_give (omega arith) refl refl refl refl tt
-    ▸ may_start refl refl refl tt
-    ▸ may_be_done refl refl tt
-    ▸ may_end refl (inl refl) refl refl refl
+    ▸ may_start refl refl refl refl tt
+    ▸ may_be_done refl refl refl tt
+    ▸ may_end refl refl (inl (no_more refl refl)) refl refl refl
     ▸ may_give (omega arith) refl refl refl refl tt
-    ▸ may_lock refl refl refl refl refl (rw lock refl) refl tt tt
-    ▸ may_look refl refl refl refl (rw look refl) refl tt refl
-    ▸ may_alter (may_act refl refl refl refl (rw alter refl)) (refl, λ c there. absurd c.demand) refl refl tt refl
-    ▸ may_be_done refl refl tt
-    ▸ may_end refl (inl refl) refl refl refl
+    ▸ may_lock refl refl refl refl refl refl (rw lock refl) refl tt tt
+    ▸ may_look refl refl refl refl refl (rw look refl) refl tt refl
+    ▸ may_alter refl (may_act refl refl refl refl (rw alter refl)) (refl, λ c there. absurd c.demand) refl refl tt refl
+    ▸ may_be_done refl refl refl tt
+    ▸ may_end refl refl (inl (no_more refl refl)) refl refl refl
     ▸ may_give (omega arith) refl refl refl refl tt
-    ▸ may_start refl refl refl tt
+    ▸ may_start refl refl refl refl tt
 
 -- the wait would be too heavy, where a lock would not
 wait_refused : IsLegal (limited 7) (asked ++ Refuse 2 (too_heavy 8) ∷ Abort 18 ∷ End 2 ∷ [])
 wait_refused =
     asked_fits 7 refl refl refl refl refl
-    ▸ may_refuse refl refl tt
-    ▸ may_abort refl (inl refl) refl refl
-    ▸ may_end refl (inr refl) refl refl refl
+    ▸ may_refuse refl refl refl tt
+    ▸ may_abort refl refl (inl refl) refl refl
+    ▸ may_end refl refl (inr refl) refl refl refl
 
 -- The wait fills the journal; then the COMMIT and the lock that was waited for weigh nothing,
 abbrev granted : List Entry
@@ -373,12 +373,12 @@ granted = waits ++ Give 1 3 ∷ Commit 8 ∷ Lock 18 3 AccessShare ∷ Done 1 (r
 granted_is_legal : IsLegal (limited 8) granted
 granted_is_legal =
     asked_fits 8 refl refl refl refl refl
-    ▸ may_wait_for_lock refl refl refl refl refl refl refl tt
+    ▸ may_wait_for_lock refl refl refl refl refl refl refl refl tt
     ▸ may_give (omega arith) refl refl refl refl tt
-    ▸ commits refl refl refl refl refl tt
+    ▸ commits refl refl refl refl refl refl tt
     ▸ may_be_granted refl refl refl tt tt
-    ▸ may_be_done refl refl refl
-    ▸ may_end refl (inl refl) refl refl refl
+    ▸ may_be_done refl refl refl refl
+    ▸ may_end refl refl (inl (no_more refl refl)) refl refl refl
 
 grant_adds_nothing : weight (reverse granted) ≡ 8
 grant_adds_nothing = refl
@@ -387,9 +387,9 @@ grant_adds_nothing = refl
 refused_after_grant : IsLegal (limited 8) (granted ++ Refuse 2 (too_heavy 9) ∷ Abort 18 ∷ End 2 ∷ [])
 refused_after_grant =
     granted_is_legal
-    ▸ may_refuse refl refl tt
-    ▸ may_abort refl (inl refl) refl refl
-    ▸ may_end refl (inr refl) refl refl refl
+    ▸ may_refuse refl refl refl tt
+    ▸ may_abort refl refl (inl refl) refl refl
+    ▸ may_end refl refl (inr refl) refl refl refl
 
 -- who waits isn't refused for what comes after
 none_while_blocked : (is_blocked (reverse waits) 2 ≡ true) × (cause_of (limited 8) (reverse waits) 2 ≡ None)
@@ -405,27 +405,27 @@ taken_fits : (n : ℕ) → nat_le 1 n ≡ true → nat_le 3 n ≡ true → nat_l
 taken_fits n first make look =
     tt
     ▸ may_give (omega arith) refl refl refl refl tt
-    ▸ may_start refl refl refl tt
-    ▸ may_be_done refl refl tt
-    ▸ may_end refl (inl refl) refl refl refl
+    ▸ may_start refl refl refl refl tt
+    ▸ may_be_done refl refl refl tt
+    ▸ may_end refl refl (inl (no_more refl refl)) refl refl refl
     ▸ may_give (omega arith) refl refl refl refl tt
-    ▸ may_look refl refl refl refl (rw first refl) refl tt tt
-    ▸ may_make (may_act refl refl refl refl (rw make refl)) refl (refl, refl) refl refl tt
-    ▸ may_be_done refl refl tt
-    ▸ may_end refl (inl refl) refl refl refl
+    ▸ may_look refl refl refl refl refl (rw first refl) refl tt tt
+    ▸ may_make refl (may_act refl refl refl refl (rw make refl)) refl (refl, refl) refl refl tt
+    ▸ may_be_done refl refl refl tt
+    ▸ may_end refl refl (inl (no_more refl refl)) refl refl refl
     ▸ may_give (omega arith) refl refl refl refl tt
-    ▸ may_start refl refl refl tt
-    ▸ may_look refl refl refl refl (rw look refl) refl tt tt
+    ▸ may_start refl refl refl refl tt
+    ▸ may_look refl refl refl refl refl (rw look refl) refl tt tt
 
 waits_for_name : IsLegal (limited 6) (taken ++ Wait 10 (wants.Ends 1) ∷ [])
-waits_for_name = taken_fits 6 refl refl refl ▸ may_wait_for_end refl refl refl refl refl refl refl tt
+waits_for_name = taken_fits 6 refl refl refl ▸ may_wait_for_end refl refl refl refl refl refl refl refl tt
 
 wait_for_name_refused : IsLegal (limited 5) (taken ++ Refuse 2 (too_heavy 6) ∷ Abort 10 ∷ End 2 ∷ [])
 wait_for_name_refused =
     taken_fits 5 refl refl refl
-    ▸ may_refuse refl refl tt
-    ▸ may_abort refl (inl refl) refl refl
-    ▸ may_end refl (inr refl) refl refl refl
+    ▸ may_refuse refl refl refl tt
+    ▸ may_abort refl refl (inl refl) refl refl
+    ▸ may_end refl refl (inr refl) refl refl refl
 
 -- ---- journals that aren't legal
 

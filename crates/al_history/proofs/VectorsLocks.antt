@@ -1,5 +1,5 @@
 -- Locks of tables, and statements that wait for one: legal journals.
-use Rattle.std.specs.Prelude.{◌≡◌, ℕ, List, [], ◌∷◌, ◌++◌, true, false, None, Some, reverse, refl}
+use Rattle.std.specs.Prelude.{◌≡◌, ℕ, List, [], ◌∷◌, ◌++◌, true, false, None, Some, reverse, refl, Ok}
 use Rattle.std.proofs.Common.{arith, inl, inr}
 use Rattle.al_modes.specs.declared.level.Level.TheVariants as levels
 use Rattle.al_modes.specs.declared.mode.Mode.{Mode}
@@ -19,7 +19,7 @@ use Rattle.al_history.specs.Alone.{sole_user}
 use Rattle.al_history.specs.Legal.{IsLegal}
 use Rattle.al_history.proofs.Vectors.{terms_of, name_t, name_a, name_b, int, column_a, column_b, create, insert, add_column, select, alone}
 use Rattle.al_history.proofs.VectorsCauses.{name_u}
-use Rattle.al_history.proofs.VectorsRules.{◌▸◌, commits, rolls_back, may_give, may_start, may_wait_for_lock, may_lock, may_be_granted, may_look, may_act, may_make, may_add, may_read, may_alter, may_be_done, may_refuse, may_commit, may_abort, may_cancel, may_end}
+use Rattle.al_history.proofs.VectorsRules.{◌▸◌, commits, rolls_back, may_give, may_start, may_wait_for_lock, may_lock, may_be_granted, may_look, may_act, may_make, may_add, may_read, may_alter, may_be_done, may_refuse, may_commit, may_abort, may_cancel, may_end, no_more}
 
 -- CREATE TABLE u (a integer), ALTER TABLE u ADD COLUMN b integer DEFAULT 5, SELECT * FROM u
 abbrev pub create_u : Statement
@@ -35,7 +35,7 @@ select_u = statements.Select name_u
 -- session 1; blocks 5 and 6 read t in sessions 2 and 3. The last alters u and then reads t.
 abbrev pub locks : Terms
 locks = terms_of 4 (
-    record { session = 0; script = create ∷ create_u ∷ insert ∷ [] }
+    record { session = 0; script = Ok (create ∷ create_u ∷ insert ∷ []) }
     ∷ alone 1 statements.Begin
     ∷ alone 1 statements.Commit
     ∷ alone 1 statements.Rollback
@@ -48,7 +48,7 @@ locks = terms_of 4 (
     ∷ alone 2 insert
     ∷ alone 1 select
     ∷ alone 2 add_column
-    ∷ record { session = 2; script = add_column_u ∷ select ∷ [] }
+    ∷ record { session = 2; script = Ok (add_column_u ∷ select ∷ []) }
     ∷ [])
 
 -- a lock of a session, or its request for one
@@ -68,23 +68,23 @@ pub begun_is_legal : IsLegal locks begun
 begun_is_legal =
     tt
     ▸ may_give (omega arith) refl refl refl refl tt
-    ▸ may_start refl refl refl tt
-    ▸ may_look refl refl refl refl refl refl tt tt
-    ▸ may_make (may_act refl refl refl refl refl) refl (refl, refl) refl refl tt
-    ▸ may_be_done refl refl tt
-    ▸ may_look refl refl refl refl refl refl tt tt
-    ▸ may_make (may_act refl refl refl refl refl) refl (refl, refl) refl refl tt
-    ▸ may_be_done refl refl tt
-    ▸ may_lock refl refl refl refl refl refl refl tt tt
-    ▸ may_look refl refl refl refl refl refl tt tt
-    ▸ may_add (may_act refl refl refl refl refl) (refl, refl) refl tt tt
-    ▸ may_be_done refl refl tt
-    ▸ may_commit refl refl refl refl refl refl
-    ▸ may_end refl (inl refl) refl refl refl
+    ▸ may_start refl refl refl refl tt
+    ▸ may_look refl refl refl refl refl refl refl tt tt
+    ▸ may_make refl (may_act refl refl refl refl refl) refl (refl, refl) refl refl tt
+    ▸ may_be_done refl refl refl tt
+    ▸ may_look refl refl refl refl refl refl refl tt tt
+    ▸ may_make refl (may_act refl refl refl refl refl) refl (refl, refl) refl refl tt
+    ▸ may_be_done refl refl refl tt
+    ▸ may_lock refl refl refl refl refl refl refl refl tt tt
+    ▸ may_look refl refl refl refl refl refl refl tt tt
+    ▸ may_add refl (may_act refl refl refl refl refl) (refl, refl) refl tt tt
+    ▸ may_be_done refl refl refl tt
+    ▸ may_commit refl refl refl refl refl refl refl
+    ▸ may_end refl refl (inl (no_more refl refl)) refl refl refl
     ▸ may_give (omega arith) refl refl refl refl tt
-    ▸ may_start refl refl refl tt
-    ▸ may_be_done refl refl tt
-    ▸ may_end refl (inl refl) refl refl refl
+    ▸ may_start refl refl refl refl tt
+    ▸ may_be_done refl refl refl tt
+    ▸ may_end refl refl (inl (no_more refl refl)) refl refl refl
 
 -- it adds a column to t,
 abbrev pub altered : List Entry
@@ -94,24 +94,24 @@ pub altered_is_legal : IsLegal locks altered
 altered_is_legal =
     begun_is_legal
     ▸ may_give (omega arith) refl refl refl refl tt
-    ▸ may_lock refl refl refl refl refl refl refl tt tt
-    ▸ may_look refl refl refl refl refl refl tt refl
-    ▸ may_alter (may_act refl refl refl refl refl) (refl, λ c there. absurd c.demand) refl refl tt refl
-    ▸ may_be_done refl refl tt
-    ▸ may_end refl (inl refl) refl refl refl
+    ▸ may_lock refl refl refl refl refl refl refl refl tt tt
+    ▸ may_look refl refl refl refl refl refl refl tt refl
+    ▸ may_alter refl (may_act refl refl refl refl refl) (refl, λ c there. absurd c.demand) refl refl tt refl
+    ▸ may_be_done refl refl refl tt
+    ▸ may_end refl refl (inl (no_more refl refl)) refl refl refl
 
 -- and keeps its lock until the block ends, so session 2, which reads t, waits.
 abbrev pub asked : List Entry
 asked = altered ++ Give 2 5 ∷ Start 2 levels.ReadCommitted ∷ []
 
 pub asked_is_legal : IsLegal locks asked
-asked_is_legal = altered_is_legal ▸ may_give (omega arith) refl refl refl refl tt ▸ may_start refl refl refl tt
+asked_is_legal = altered_is_legal ▸ may_give (omega arith) refl refl refl refl tt ▸ may_start refl refl refl refl tt
 
 abbrev pub waits : List Entry
 waits = asked ++ Wait 25 (wants.Table 3 AccessShare) ∷ []
 
 pub waits_is_legal : IsLegal locks waits
-waits_is_legal = asked_is_legal ▸ may_wait_for_lock refl refl refl refl refl refl refl tt
+waits_is_legal = asked_is_legal ▸ may_wait_for_lock refl refl refl refl refl refl refl refl tt
 
 -- session 1 holds its lock, and has t alone
 alter_holds : held (reverse waits) ≡ of 1 3 AccessExclusive ∷ []
@@ -147,7 +147,7 @@ abbrev pub freed : List Entry
 freed = waits ++ Give 1 2 ∷ Commit 15 ∷ []
 
 pub freed_is_legal : IsLegal locks freed
-freed_is_legal = waits_is_legal ▸ may_give (omega arith) refl refl refl refl tt ▸ commits refl refl refl refl refl tt
+freed_is_legal = waits_is_legal ▸ may_give (omega arith) refl refl refl refl tt ▸ commits refl refl refl refl refl refl tt
 
 -- nobody holds a lock then,
 none_held : held (reverse freed) ≡ []
@@ -161,7 +161,7 @@ abbrev pub granted : List Entry
 granted = freed ++ Lock 25 3 AccessShare ∷ Done 1 (replies.Tag tags.Commit 0) ∷ End 1 ∷ []
 
 pub granted_is_legal : IsLegal locks granted
-granted_is_legal = freed_is_legal ▸ may_be_granted refl refl refl tt tt ▸ may_be_done refl refl refl ▸ may_end refl (inl refl) refl refl refl
+granted_is_legal = freed_is_legal ▸ may_be_granted refl refl refl tt tt ▸ may_be_done refl refl refl refl ▸ may_end refl refl (inl (no_more refl refl)) refl refl refl
 
 -- the request has become a lock
 now_held : held (reverse granted) ≡ of 2 3 AccessShare ∷ []
@@ -174,26 +174,26 @@ none_waits = refl
 reads_after_commit : IsLegal locks (granted ++ Look 25 ∷ Read 25 (name_a ∷ name_b ∷ []) ((int 1 ∷ int 5 ∷ []) ∷ []) ∷ Done 2 (replies.Rows 33) ∷ Commit 25 ∷ End 2 ∷ [])
 reads_after_commit =
     granted_is_legal
-    ▸ may_look refl refl refl refl refl refl tt tt
-    ▸ may_read (may_act refl refl refl refl refl) (refl, refl) refl tt tt
-    ▸ may_be_done refl refl tt
-    ▸ may_commit refl refl refl refl refl refl
-    ▸ may_end refl (inl refl) refl refl refl
+    ▸ may_look refl refl refl refl refl refl refl tt tt
+    ▸ may_read refl (may_act refl refl refl refl refl) (refl, refl) refl tt tt
+    ▸ may_be_done refl refl refl tt
+    ▸ may_commit refl refl refl refl refl refl refl
+    ▸ may_end refl refl (inl (no_more refl refl)) refl refl refl
 
 -- after ROLLBACK it reads t as it was
 reads_after_rollback : IsLegal locks (waits ++ Give 1 3 ∷ Abort 15 ∷ Lock 25 3 AccessShare ∷ Done 1 (replies.Tag tags.Rollback 0) ∷ End 1 ∷ Look 25 ∷ Read 25 (name_a ∷ []) ((int 1 ∷ []) ∷ []) ∷ Done 2 (replies.Rows 33) ∷ Commit 25 ∷ End 2 ∷ [])
 reads_after_rollback =
     waits_is_legal
     ▸ may_give (omega arith) refl refl refl refl tt
-    ▸ rolls_back refl refl refl tt
+    ▸ rolls_back refl refl refl refl tt
     ▸ may_be_granted refl refl refl tt tt
-    ▸ may_be_done refl refl refl
-    ▸ may_end refl (inl refl) refl refl refl
-    ▸ may_look refl refl refl refl refl refl tt tt
-    ▸ may_read (may_act refl refl refl refl refl) (refl, refl) refl tt tt
-    ▸ may_be_done refl refl tt
-    ▸ may_commit refl refl refl refl refl refl
-    ▸ may_end refl (inl refl) refl refl refl
+    ▸ may_be_done refl refl refl refl
+    ▸ may_end refl refl (inl (no_more refl refl)) refl refl refl
+    ▸ may_look refl refl refl refl refl refl refl tt tt
+    ▸ may_read refl (may_act refl refl refl refl refl) (refl, refl) refl tt tt
+    ▸ may_be_done refl refl refl tt
+    ▸ may_commit refl refl refl refl refl refl refl
+    ▸ may_end refl refl (inl (no_more refl refl)) refl refl refl
 
 -- The step that waits is cancelled: it is refused, and its request leaves.
 abbrev cancelled : List Entry
@@ -203,9 +203,9 @@ cancelled_is_legal : IsLegal locks cancelled
 cancelled_is_legal =
     waits_is_legal
     ▸ may_cancel refl refl tt
-    ▸ may_refuse refl refl refl
-    ▸ may_abort refl (inl refl) refl refl
-    ▸ may_end refl (inr refl) refl refl refl
+    ▸ may_refuse refl refl refl refl
+    ▸ may_abort refl refl (inl refl) refl refl
+    ▸ may_end refl refl (inr refl) refl refl refl
 
 request_left : waiting (reverse cancelled) ≡ []
 request_left = refl

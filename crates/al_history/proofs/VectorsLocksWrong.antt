@@ -164,7 +164,7 @@ refused_in_wait l = none_some l.0.rule.first_true
 
 -- or ends its step
 ended_in_wait : IsLegal locks (waits ++ End 2 ∷ []) → ⊥
-ended_in_wait l = elim l.0.rule.over [ inl last ↦ some_none last | inr was_refused ↦ false_true was_refused ]
+ended_in_wait l = elim l.0.rule.over [ inl last ↦ some_none last.none_left | inr was_refused ↦ false_true was_refused ]
 
 -- A step that waited goes on after its cancel
 granted_after_cancel : IsLegal locks (waits ++ Cancel 2 ∷ Refuse 2 (causes.Cancelled 27) ∷ Abort 25 ∷ End 2 ∷ Give 1 2 ∷ Commit 15 ∷ Lock 25 3 AccessShare ∷ []) → ⊥

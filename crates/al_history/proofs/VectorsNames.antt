@@ -17,7 +17,7 @@ use Rattle.al_history.specs.Waits.{is_blocked, can_go_on}
 use Rattle.al_history.specs.Legal.{IsLegal}
 use Rattle.al_history.proofs.Vectors.{terms_of, name_t, name_a, name_b, column_a, create, alone}
 use Rattle.al_history.proofs.VectorsCauses.{name_u}
-use Rattle.al_history.proofs.VectorsRules.{false_true, none_some, some_none, differ, ◌▸◌, commits, rolls_back, may_give, may_start, may_wait_for_end, may_look, may_act, may_make, may_be_done, may_refuse, may_commit, may_abort, may_cancel, may_end}
+use Rattle.al_history.proofs.VectorsRules.{false_true, none_some, some_none, differ, ◌▸◌, commits, rolls_back, may_give, may_start, may_wait_for_end, may_look, may_act, may_make, may_be_done, may_refuse, may_commit, may_abort, may_cancel, may_end, no_more}
 
 -- CREATE TABLE u (a integer), and the same with a column twice
 abbrev create_u : Statement
@@ -49,14 +49,14 @@ taken_is_legal : IsLegal names taken
 taken_is_legal =
     tt
     ▸ may_give (omega arith) refl refl refl refl tt
-    ▸ may_start refl refl refl tt
-    ▸ may_be_done refl refl tt
-    ▸ may_end refl (inl refl) refl refl refl
+    ▸ may_start refl refl refl refl tt
+    ▸ may_be_done refl refl refl tt
+    ▸ may_end refl refl (inl (no_more refl refl)) refl refl refl
     ▸ may_give (omega arith) refl refl refl refl tt
-    ▸ may_look refl refl refl refl refl refl tt tt
-    ▸ may_make (may_act refl refl refl refl refl) refl (refl, refl) refl refl tt
-    ▸ may_be_done refl refl tt
-    ▸ may_end refl (inl refl) refl refl refl
+    ▸ may_look refl refl refl refl refl refl refl tt tt
+    ▸ may_make refl (may_act refl refl refl refl refl) refl (refl, refl) refl refl tt
+    ▸ may_be_done refl refl refl tt
+    ▸ may_end refl refl (inl (no_more refl refl)) refl refl refl
 
 -- Session 2 wants to make it too, and waits after its Look.
 abbrev looked : List Entry
@@ -66,14 +66,14 @@ looked_is_legal : IsLegal names looked
 looked_is_legal =
     taken_is_legal
     ▸ may_give (omega arith) refl refl refl refl tt
-    ▸ may_start refl refl refl tt
-    ▸ may_look refl refl refl refl refl refl tt tt
+    ▸ may_start refl refl refl refl tt
+    ▸ may_look refl refl refl refl refl refl refl tt tt
 
 abbrev waits : List Entry
 waits = looked ++ Wait 10 (wants.Ends 1) ∷ []
 
 waits_is_legal : IsLegal names waits
-waits_is_legal = looked_is_legal ▸ may_wait_for_end refl refl refl refl refl refl refl tt
+waits_is_legal = looked_is_legal ▸ may_wait_for_end refl refl refl refl refl refl refl refl tt
 
 -- it is blocked, though no request for a lock waits
 blocked : is_blocked (reverse waits) 2 ≡ true
@@ -90,9 +90,9 @@ committed_is_legal : IsLegal names committed
 committed_is_legal =
     waits_is_legal
     ▸ may_give (omega arith) refl refl refl refl tt
-    ▸ commits refl refl refl refl refl tt
-    ▸ may_be_done refl refl refl
-    ▸ may_end refl (inl refl) refl refl refl
+    ▸ commits refl refl refl refl refl refl tt
+    ▸ may_be_done refl refl refl refl
+    ▸ may_end refl refl (inl (no_more refl refl)) refl refl refl
 
 goes_on : can_go_on (reverse committed) 2 ≡ true
 goes_on = refl
@@ -100,63 +100,63 @@ goes_on = refl
 refused_after_commit : IsLegal names (committed ++ Refuse 2 (causes.TwiceTable name_u) ∷ Abort 10 ∷ End 2 ∷ [])
 refused_after_commit =
     committed_is_legal
-    ▸ may_refuse refl refl tt
-    ▸ may_abort refl (inl refl) refl refl
-    ▸ may_end refl (inr refl) refl refl refl
+    ▸ may_refuse refl refl refl tt
+    ▸ may_abort refl refl (inl refl) refl refl
+    ▸ may_end refl refl (inr refl) refl refl refl
 
 -- and after ROLLBACK it makes its table.
 made_after_rollback : IsLegal names (waits ++ Give 1 3 ∷ Abort 1 ∷ Done 1 (replies.Tag tags.Rollback 0) ∷ End 1 ∷ Make 10 17 name_u (column_a ∷ []) ∷ Done 2 (replies.Tag tags.CreateTable 0) ∷ Commit 10 ∷ End 2 ∷ [])
 made_after_rollback =
     waits_is_legal
     ▸ may_give (omega arith) refl refl refl refl tt
-    ▸ rolls_back refl refl refl tt
-    ▸ may_be_done refl refl refl
-    ▸ may_end refl (inl refl) refl refl refl
-    ▸ may_make (may_act refl refl refl refl refl) refl (refl, refl) refl refl tt
-    ▸ may_be_done refl refl tt
-    ▸ may_commit refl refl refl refl refl refl
-    ▸ may_end refl (inl refl) refl refl refl
+    ▸ rolls_back refl refl refl refl tt
+    ▸ may_be_done refl refl refl refl
+    ▸ may_end refl refl (inl (no_more refl refl)) refl refl refl
+    ▸ may_make refl (may_act refl refl refl refl refl) refl (refl, refl) refl refl tt
+    ▸ may_be_done refl refl refl tt
+    ▸ may_commit refl refl refl refl refl refl refl
+    ▸ may_end refl refl (inl (no_more refl refl)) refl refl refl
 
 -- the step that waits is cancelled
 cancelled_is_legal : IsLegal names (waits ++ Cancel 2 ∷ Refuse 2 (causes.Cancelled 13) ∷ Abort 10 ∷ End 2 ∷ [])
 cancelled_is_legal =
     waits_is_legal
     ▸ may_cancel refl refl tt
-    ▸ may_refuse refl refl refl
-    ▸ may_abort refl (inl refl) refl refl
-    ▸ may_end refl (inr refl) refl refl refl
+    ▸ may_refuse refl refl refl refl
+    ▸ may_abort refl refl (inl refl) refl refl
+    ▸ may_end refl refl (inr refl) refl refl refl
 
 -- a column that stands twice is told at once, without a wait
 told_at_once : IsLegal names (taken ++ Give 2 5 ∷ Start 2 levels.ReadCommitted ∷ Look 10 ∷ Refuse 2 (causes.TwiceColumn name_b) ∷ [])
 told_at_once =
     taken_is_legal
     ▸ may_give (omega arith) refl refl refl refl tt
-    ▸ may_start refl refl refl tt
-    ▸ may_look refl refl refl refl refl refl tt tt
-    ▸ may_refuse refl refl tt
+    ▸ may_start refl refl refl refl tt
+    ▸ may_look refl refl refl refl refl refl refl tt tt
+    ▸ may_refuse refl refl refl tt
 
 -- the table isn't there for session 2 before COMMIT
 not_there : IsLegal names (taken ++ Give 2 6 ∷ Start 2 levels.ReadCommitted ∷ Refuse 2 (causes.NoTable name_u) ∷ [])
-not_there = taken_is_legal ▸ may_give (omega arith) refl refl refl refl tt ▸ may_start refl refl refl tt ▸ may_refuse refl refl tt
+not_there = taken_is_legal ▸ may_give (omega arith) refl refl refl refl tt ▸ may_start refl refl refl refl tt ▸ may_refuse refl refl refl tt
 
 -- a table of another name is made beside it
 other_name : IsLegal names (taken ++ Give 2 7 ∷ Start 2 levels.ReadCommitted ∷ Look 10 ∷ Make 10 12 name_t (column_a ∷ []) ∷ [])
 other_name =
     taken_is_legal
     ▸ may_give (omega arith) refl refl refl refl tt
-    ▸ may_start refl refl refl tt
-    ▸ may_look refl refl refl refl refl refl tt tt
-    ▸ may_make (may_act refl refl refl refl refl) refl (refl, refl) refl refl tt
+    ▸ may_start refl refl refl refl tt
+    ▸ may_look refl refl refl refl refl refl refl tt tt
+    ▸ may_make refl (may_act refl refl refl refl refl) refl (refl, refl) refl refl tt
 
 -- nobody waits for itself: where session 1 makes the table twice in its block, the second is refused at once
 own_name : IsLegal names (taken ++ Give 1 1 ∷ Look 1 ∷ Refuse 1 (causes.TwiceTable name_u) ∷ Abort 1 ∷ End 1 ∷ [])
 own_name =
     taken_is_legal
     ▸ may_give (omega arith) refl refl refl refl tt
-    ▸ may_look refl refl refl refl refl refl tt tt
-    ▸ may_refuse refl refl tt
-    ▸ may_abort refl (inl refl) refl refl
-    ▸ may_end refl (inr refl) refl refl refl
+    ▸ may_look refl refl refl refl refl refl refl tt tt
+    ▸ may_refuse refl refl refl tt
+    ▸ may_abort refl refl (inl refl) refl refl
+    ▸ may_end refl refl (inr refl) refl refl refl
 
 -- ---- what isn't legal
 

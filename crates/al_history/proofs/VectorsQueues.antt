@@ -15,7 +15,7 @@ use Rattle.al_history.specs.Made.{IsOf, Extends}
 use Rattle.al_history.specs.Legal.{IsLegal}
 use Rattle.al_history.proofs.Vectors.{name_a, int}
 use Rattle.al_history.proofs.VectorsLocks.{locks, of, begun, begun_is_legal, altered, altered_is_legal}
-use Rattle.al_history.proofs.VectorsRules.{◌▸◌, commits, may_give, may_start, may_wait_for_lock, may_lock, may_be_granted, may_look, may_act, may_add, may_read, may_alter, may_be_done, may_refuse, may_commit, may_abort, may_cancel, may_end, false_true, differ}
+use Rattle.al_history.proofs.VectorsRules.{◌▸◌, commits, may_give, may_start, may_wait_for_lock, may_lock, may_be_granted, may_look, may_act, may_add, may_read, may_alter, may_be_done, may_refuse, may_commit, may_abort, may_cancel, may_end, false_true, differ, no_more}
 
 -- Session 1 has altered t and alters u too. Session 2 waits for u, and then session 3 for t.
 abbrev pub two_wait : List Entry
@@ -31,19 +31,19 @@ pub two_freed_is_legal : IsLegal locks two_freed
 two_freed_is_legal =
     altered_is_legal
     ▸ may_give (omega arith) refl refl refl refl tt
-    ▸ may_lock refl refl refl refl refl refl refl tt tt
-    ▸ may_look refl refl refl refl refl refl tt refl
-    ▸ may_alter (may_act refl refl refl refl refl) (refl, λ c there. absurd c.demand) refl refl tt refl
-    ▸ may_be_done refl refl tt
-    ▸ may_end refl (inl refl) refl refl refl
+    ▸ may_lock refl refl refl refl refl refl refl refl tt tt
+    ▸ may_look refl refl refl refl refl refl refl tt refl
+    ▸ may_alter refl (may_act refl refl refl refl refl) (refl, λ c there. absurd c.demand) refl refl tt refl
+    ▸ may_be_done refl refl refl tt
+    ▸ may_end refl refl (inl (no_more refl refl)) refl refl refl
     ▸ may_give (omega arith) refl refl refl refl tt
-    ▸ may_start refl refl refl tt
-    ▸ may_wait_for_lock refl refl refl refl refl refl refl tt
+    ▸ may_start refl refl refl refl tt
+    ▸ may_wait_for_lock refl refl refl refl refl refl refl refl tt
     ▸ may_give (omega arith) refl refl refl refl tt
-    ▸ may_start refl refl refl tt
-    ▸ may_wait_for_lock refl refl refl refl refl refl refl tt
+    ▸ may_start refl refl refl refl tt
+    ▸ may_wait_for_lock refl refl refl refl refl refl refl refl tt
     ▸ may_give (omega arith) refl refl refl refl tt
-    ▸ commits refl refl refl refl refl tt
+    ▸ commits refl refl refl refl refl refl tt
 
 -- both are granted by the one COMMIT: t has the smaller number, so session 3 comes first, though it asked later
 both_granted_is_legal : IsLegal locks (two_freed ++ Lock 34 3 AccessShare ∷ Lock 31 6 AccessShare ∷ Done 1 (replies.Tag tags.Commit 0) ∷ End 1 ∷ [])
@@ -51,8 +51,8 @@ both_granted_is_legal =
     two_freed_is_legal
     ▸ may_be_granted refl refl refl tt tt
     ▸ may_be_granted refl refl refl (omega arith) tt
-    ▸ may_be_done refl refl refl
-    ▸ may_end refl (inl refl) refl refl refl
+    ▸ may_be_done refl refl refl refl
+    ▸ may_end refl refl (inl (no_more refl refl)) refl refl refl
 
 -- An INSERT beside an INSERT: both hold their locks at once.
 abbrev beside : List Entry
@@ -64,17 +64,17 @@ beside_is_legal : IsLegal locks beside
 beside_is_legal =
     begun_is_legal
     ▸ may_give (omega arith) refl refl refl refl tt
-    ▸ may_lock refl refl refl refl refl refl refl tt tt
-    ▸ may_look refl refl refl refl refl refl tt tt
-    ▸ may_add (may_act refl refl refl refl refl) (refl, refl) refl tt tt
-    ▸ may_be_done refl refl tt
-    ▸ may_end refl (inl refl) refl refl refl
+    ▸ may_lock refl refl refl refl refl refl refl refl tt tt
+    ▸ may_look refl refl refl refl refl refl refl tt tt
+    ▸ may_add refl (may_act refl refl refl refl refl) (refl, refl) refl tt tt
+    ▸ may_be_done refl refl refl tt
+    ▸ may_end refl refl (inl (no_more refl refl)) refl refl refl
     ▸ may_give (omega arith) refl refl refl refl tt
-    ▸ may_start refl refl refl tt
-    ▸ may_lock refl refl refl refl refl refl refl tt tt
-    ▸ may_look refl refl refl refl refl refl tt tt
-    ▸ may_add (may_act refl refl refl refl refl) (refl, refl) refl tt tt
-    ▸ may_be_done refl refl tt
+    ▸ may_start refl refl refl refl tt
+    ▸ may_lock refl refl refl refl refl refl refl refl tt tt
+    ▸ may_look refl refl refl refl refl refl refl tt tt
+    ▸ may_add refl (may_act refl refl refl refl refl) (refl, refl) refl tt tt
+    ▸ may_be_done refl refl refl tt
 
 both_held : held (reverse beside) ≡ of 1 3 RowExclusive ∷ of 2 3 RowExclusive ∷ []
 both_held = refl
@@ -90,22 +90,22 @@ pub reader_asks_is_legal : IsLegal locks reader_asks
 reader_asks_is_legal =
     begun_is_legal
     ▸ may_give (omega arith) refl refl refl refl tt
-    ▸ may_lock refl refl refl refl refl refl refl tt tt
-    ▸ may_look refl refl refl refl refl refl tt tt
-    ▸ may_read (may_act refl refl refl refl refl) (refl, refl) refl tt tt
-    ▸ may_be_done refl refl tt
-    ▸ may_end refl (inl refl) refl refl refl
+    ▸ may_lock refl refl refl refl refl refl refl refl tt tt
+    ▸ may_look refl refl refl refl refl refl refl tt tt
+    ▸ may_read refl (may_act refl refl refl refl refl) (refl, refl) refl tt tt
+    ▸ may_be_done refl refl refl tt
+    ▸ may_end refl refl (inl (no_more refl refl)) refl refl refl
     ▸ may_give (omega arith) refl refl refl refl tt
-    ▸ may_start refl refl refl tt
-    ▸ may_wait_for_lock refl refl refl refl refl refl refl tt
+    ▸ may_start refl refl refl refl tt
+    ▸ may_wait_for_lock refl refl refl refl refl refl refl refl tt
     ▸ may_give (omega arith) refl refl refl refl tt
-    ▸ may_start refl refl refl tt
+    ▸ may_start refl refl refl refl tt
 
 abbrev pub queue : List Entry
 queue = reader_asks ++ Wait 28 (wants.Table 3 AccessShare) ∷ []
 
 pub queue_is_legal : IsLegal locks queue
-queue_is_legal = reader_asks_is_legal ▸ may_wait_for_lock refl refl refl refl refl refl refl tt
+queue_is_legal = reader_asks_is_legal ▸ may_wait_for_lock refl refl refl refl refl refl refl refl tt
 
 -- the requests wait in the order in which they came, and none can be granted
 queue_in_order : waiting (reverse queue) ≡ of 2 3 AccessExclusive ∷ of 3 3 AccessShare ∷ []
@@ -122,10 +122,10 @@ passed_is_legal : IsLegal locks passed
 passed_is_legal =
     queue_is_legal
     ▸ may_give (omega arith) refl refl refl refl tt
-    ▸ commits refl refl refl refl refl tt
+    ▸ commits refl refl refl refl refl refl tt
     ▸ may_be_granted refl refl refl tt tt
-    ▸ may_be_done refl refl refl
-    ▸ may_end refl (inl refl) refl refl refl
+    ▸ may_be_done refl refl refl refl
+    ▸ may_end refl refl (inl (no_more refl refl)) refl refl refl
 
 alter_goes_on : can_go_on (reverse passed) 2 ≡ true
 alter_goes_on = refl
@@ -137,13 +137,13 @@ reader_still_blocked = refl
 queue_is_done : IsLegal locks (passed ++ Look 25 ∷ Alter 25 3 0 [] ∷ Done 2 (replies.Tag tags.AlterTable 0) ∷ Commit 25 ∷ Lock 28 3 AccessShare ∷ End 2 ∷ Look 28 ∷ [])
 queue_is_done =
     passed_is_legal
-    ▸ may_look refl refl refl refl refl refl tt refl
-    ▸ may_alter (may_act refl refl refl refl refl) (refl, λ c there. absurd c.demand) refl refl tt refl
-    ▸ may_be_done refl refl tt
-    ▸ may_commit refl refl refl refl refl refl
+    ▸ may_look refl refl refl refl refl refl refl tt refl
+    ▸ may_alter refl (may_act refl refl refl refl refl) (refl, λ c there. absurd c.demand) refl refl tt refl
+    ▸ may_be_done refl refl refl tt
+    ▸ may_commit refl refl refl refl refl refl refl
     ▸ may_be_granted refl refl refl tt tt
-    ▸ may_end refl (inl refl) refl refl refl
-    ▸ may_look refl refl refl refl refl refl tt tt
+    ▸ may_end refl refl (inl (no_more refl refl)) refl refl refl
+    ▸ may_look refl refl refl refl refl refl refl tt tt
 
 -- Two sessions wait for each other: session 1 has t alone and wants u, session 2 has u alone and wants t.
 abbrev each_waits : List Entry
@@ -156,14 +156,14 @@ each_waits_is_legal : IsLegal locks each_waits
 each_waits_is_legal =
     altered_is_legal
     ▸ may_give (omega arith) refl refl refl refl tt
-    ▸ may_start refl refl refl tt
-    ▸ may_lock refl refl refl refl refl refl refl tt tt
-    ▸ may_look refl refl refl refl refl refl tt refl
-    ▸ may_alter (may_act refl refl refl refl refl) (refl, λ c there. absurd c.demand) refl refl tt refl
-    ▸ may_be_done refl refl tt
-    ▸ may_wait_for_lock refl refl refl refl refl refl refl tt
+    ▸ may_start refl refl refl refl tt
+    ▸ may_lock refl refl refl refl refl refl refl refl tt tt
+    ▸ may_look refl refl refl refl refl refl refl tt refl
+    ▸ may_alter refl (may_act refl refl refl refl refl) (refl, λ c there. absurd c.demand) refl refl tt refl
+    ▸ may_be_done refl refl refl tt
+    ▸ may_wait_for_lock refl refl refl refl refl refl refl refl tt
     ▸ may_give (omega arith) refl refl refl refl tt
-    ▸ may_wait_for_lock refl refl refl refl refl refl refl tt
+    ▸ may_wait_for_lock refl refl refl refl refl refl refl refl tt
 
 first_stands_still : can_go_on (reverse each_waits) 1 ≡ false
 first_stands_still = refl
@@ -176,15 +176,15 @@ one_is_cancelled : IsLegal locks (each_waits ++ Cancel 1 ∷ Refuse 1 (causes.Ca
 one_is_cancelled =
     each_waits_is_legal
     ▸ may_cancel refl refl tt
-    ▸ may_refuse refl refl refl
-    ▸ may_abort refl (inl refl) refl refl
+    ▸ may_refuse refl refl refl refl
+    ▸ may_abort refl refl (inl refl) refl refl
     ▸ may_be_granted refl refl refl tt tt
-    ▸ may_end refl (inr refl) refl refl refl
-    ▸ may_look refl refl refl refl refl refl tt tt
-    ▸ may_read (may_act refl refl refl refl refl) (refl, refl) refl tt tt
-    ▸ may_be_done refl refl tt
-    ▸ may_commit refl refl refl refl refl refl
-    ▸ may_end refl (inl refl) refl refl refl
+    ▸ may_end refl refl (inr refl) refl refl refl
+    ▸ may_look refl refl refl refl refl refl refl tt tt
+    ▸ may_read refl (may_act refl refl refl refl refl) (refl, refl) refl tt tt
+    ▸ may_be_done refl refl refl tt
+    ▸ may_commit refl refl refl refl refl refl refl
+    ▸ may_end refl refl (inl (no_more refl refl)) refl refl refl
 
 -- a turn of session 1 is its own Commit, Done and End, and the locks that it lets go on
 turn_of_commit : Extends 1 (reverse (queue ++ Give 1 2 ∷ [])) (reverse passed)

@@ -23,6 +23,8 @@ refused_for_nothing l = none_some l.0.rule.first_true
 -- the first byte of the name that a cause tells
 abbrev letter : Option Cause → ℕ
 letter None = 0
+letter (Some (causes.Syntax at)) = 0
+letter (Some (causes.NotInProfile at)) = 0
 letter (Some (causes.NoTable name)) = slice_index name 0
 letter (Some (causes.TwiceTable name)) = slice_index name 0
 letter (Some (causes.TwiceColumn name)) = slice_index name 0

@@ -1,5 +1,5 @@
 -- What readers find: rows of others from their Commit on, defaults, changes of an own transaction, older readers.
-use Rattle.std.specs.Prelude.{◌≡◌, List, [], ◌∷◌, ◌++◌, None, reverse, refl}
+use Rattle.std.specs.Prelude.{◌≡◌, List, [], ◌∷◌, ◌++◌, None, reverse, refl, Ok}
 use Rattle.std.proofs.Common.{arith, inl, inr}
 use Rattle.al_modes.specs.declared.level.Level.TheVariants as levels
 use Rattle.al_modes.specs.declared.mode.Mode.TheVariants.{AccessShare, RowExclusive, AccessExclusive}
@@ -18,7 +18,7 @@ use Rattle.al_history.specs.View.{view, latest, committed}
 use Rattle.al_history.specs.Legal.{IsLegal}
 use Rattle.al_history.proofs.Vectors.{terms_of, name_t, name_a, name_b, int, column_a, column_b, insert, add_column, select, alone, terms_with, terms, done_create, ended_create, ended_insert, journal, create_is_legal}
 use Rattle.al_history.proofs.VectorsCauses.{failed}
-use Rattle.al_history.proofs.VectorsRules.{◌▸◌, may_give, may_start, may_lock, may_look, may_act, may_add, may_read, may_alter, may_be_done, may_refuse, may_commit, may_abort, may_end}
+use Rattle.al_history.proofs.VectorsRules.{◌▸◌, may_give, may_start, may_lock, may_look, may_act, may_add, may_read, may_alter, may_be_done, may_refuse, may_commit, may_abort, may_end, no_more}
 
 -- the table t with a column a, and with the column b too
 abbrev narrow : List VersionedRow → Table
@@ -67,38 +67,38 @@ looked_early_is_legal : IsLegal read looked_early
 looked_early_is_legal =
     create_is_legal reading
     ▸ may_give (omega arith) refl refl refl refl tt
-    ▸ may_start refl refl refl tt
-    ▸ may_lock refl refl refl refl refl refl refl tt tt
-    ▸ may_look refl refl refl refl refl refl tt tt
-    ▸ may_add (may_act refl refl refl refl refl) (refl, refl) refl tt tt
+    ▸ may_start refl refl refl refl tt
+    ▸ may_lock refl refl refl refl refl refl refl refl tt tt
+    ▸ may_look refl refl refl refl refl refl refl tt tt
+    ▸ may_add refl (may_act refl refl refl refl refl) (refl, refl) refl tt tt
     ▸ may_give (omega arith) refl refl refl refl tt
-    ▸ may_start refl refl refl tt
-    ▸ may_lock refl refl refl refl refl refl refl tt tt
-    ▸ may_look refl refl refl refl refl refl tt tt
-    ▸ may_be_done refl refl tt
-    ▸ may_commit refl refl refl refl refl refl
-    ▸ may_end refl (inl refl) refl refl refl
+    ▸ may_start refl refl refl refl tt
+    ▸ may_lock refl refl refl refl refl refl refl refl tt tt
+    ▸ may_look refl refl refl refl refl refl refl tt tt
+    ▸ may_be_done refl refl refl tt
+    ▸ may_commit refl refl refl refl refl refl refl
+    ▸ may_end refl refl (inl (no_more refl refl)) refl refl refl
 
 -- since sessions may take turns inside their steps
 looked_late_is_legal : IsLegal read looked_late
 looked_late_is_legal =
     create_is_legal reading
     ▸ may_give (omega arith) refl refl refl refl tt
-    ▸ may_start refl refl refl tt
-    ▸ may_lock refl refl refl refl refl refl refl tt tt
-    ▸ may_look refl refl refl refl refl refl tt tt
-    ▸ may_add (may_act refl refl refl refl refl) (refl, refl) refl tt tt
+    ▸ may_start refl refl refl refl tt
+    ▸ may_lock refl refl refl refl refl refl refl refl tt tt
+    ▸ may_look refl refl refl refl refl refl refl tt tt
+    ▸ may_add refl (may_act refl refl refl refl refl) (refl, refl) refl tt tt
     ▸ may_give (omega arith) refl refl refl refl tt
-    ▸ may_start refl refl refl tt
-    ▸ may_be_done refl refl tt
-    ▸ may_commit refl refl refl refl refl refl
-    ▸ may_end refl (inl refl) refl refl refl
-    ▸ may_lock refl refl refl refl refl refl refl tt tt
-    ▸ may_look refl refl refl refl refl refl tt tt
+    ▸ may_start refl refl refl refl tt
+    ▸ may_be_done refl refl refl tt
+    ▸ may_commit refl refl refl refl refl refl refl
+    ▸ may_end refl refl (inl (no_more refl refl)) refl refl refl
+    ▸ may_lock refl refl refl refl refl refl refl refl tt tt
+    ▸ may_look refl refl refl refl refl refl refl tt tt
 
 -- a SELECT that looked before the Commit of a row doesn't read it,
 early_reads_none : IsLegal read (looked_early ++ Read 13 (name_a ∷ []) [] ∷ [])
-early_reads_none = looked_early_is_legal ▸ may_read (may_act refl refl refl refl refl) (refl, refl) refl tt tt
+early_reads_none = looked_early_is_legal ▸ may_read refl (may_act refl refl refl refl refl) (refl, refl) refl tt tt
 
 -- (it can't read it)
 early_reads_row : IsLegal read (looked_early ++ Read 13 (name_a ∷ []) ((int 1 ∷ []) ∷ []) ∷ []) → ⊥
@@ -106,7 +106,7 @@ early_reads_row l = cc l.0.rule.selects.1
 
 -- and one that looked after it does, though its transaction began before
 late_reads_row : IsLegal read (looked_late ++ Read 13 (name_a ∷ []) ((int 1 ∷ []) ∷ []) ∷ [])
-late_reads_row = looked_late_is_legal ▸ may_read (may_act refl refl refl refl refl) (refl, refl) refl tt tt
+late_reads_row = looked_late_is_legal ▸ may_read refl (may_act refl refl refl refl refl) (refl, refl) refl tt tt
 
 -- (it can't miss it)
 late_reads_none : IsLegal read (looked_late ++ Read 13 (name_a ∷ []) [] ∷ []) → ⊥
@@ -118,7 +118,7 @@ abbrev insert_more : Statement
 insert_more = statements.Insert name_t (int 2 ∷ [])
 
 abbrev four : List ScriptBlock
-four = record { session = 0; script = insert ∷ add_column ∷ insert_more ∷ select ∷ [] } ∷ []
+four = record { session = 0; script = Ok (insert ∷ add_column ∷ insert_more ∷ select ∷ []) } ∷ []
 
 abbrev looked_four : List Entry
 looked_four = ended_create ++ Give 0 1 ∷ Start 0 levels.ReadCommitted
@@ -132,29 +132,29 @@ looked_four_is_legal : IsLegal (terms_with four) looked_four
 looked_four_is_legal =
     create_is_legal four
     ▸ may_give (omega arith) refl refl refl refl tt
-    ▸ may_start refl refl refl tt
-    ▸ may_lock refl refl refl refl refl refl refl tt tt
-    ▸ may_look refl refl refl refl refl refl tt tt
-    ▸ may_add (may_act refl refl refl refl refl) (refl, refl) refl tt tt
-    ▸ may_be_done refl refl tt
-    ▸ may_lock refl refl refl refl refl refl refl tt tt
-    ▸ may_look refl refl refl refl refl refl tt refl
-    ▸ may_alter (may_act refl refl refl refl refl) (refl, λ c there. absurd c.demand) refl refl tt refl
-    ▸ may_be_done refl refl tt
-    ▸ may_look refl refl refl refl refl refl tt refl
-    ▸ may_add (may_act refl refl refl refl refl) (refl, refl) refl tt refl
-    ▸ may_be_done refl refl tt
-    ▸ may_lock refl refl refl refl refl refl refl tt refl
-    ▸ may_look refl refl refl refl refl refl tt refl
+    ▸ may_start refl refl refl refl tt
+    ▸ may_lock refl refl refl refl refl refl refl refl tt tt
+    ▸ may_look refl refl refl refl refl refl refl tt tt
+    ▸ may_add refl (may_act refl refl refl refl refl) (refl, refl) refl tt tt
+    ▸ may_be_done refl refl refl tt
+    ▸ may_lock refl refl refl refl refl refl refl refl tt tt
+    ▸ may_look refl refl refl refl refl refl refl tt refl
+    ▸ may_alter refl (may_act refl refl refl refl refl) (refl, λ c there. absurd c.demand) refl refl tt refl
+    ▸ may_be_done refl refl refl tt
+    ▸ may_look refl refl refl refl refl refl refl tt refl
+    ▸ may_add refl (may_act refl refl refl refl refl) (refl, refl) refl tt refl
+    ▸ may_be_done refl refl refl tt
+    ▸ may_lock refl refl refl refl refl refl refl refl tt refl
+    ▸ may_look refl refl refl refl refl refl refl tt refl
 
 -- the transaction reads both rows in the order in which they came, each with the default of the new column
 four_is_legal : IsLegal (terms_with four) (looked_four ++ Read 8 (name_a ∷ name_b ∷ []) ((int 1 ∷ int 5 ∷ []) ∷ (int 2 ∷ int 5 ∷ []) ∷ []) ∷ Done 0 (replies.Rows 22) ∷ Commit 8 ∷ End 0 ∷ [])
 four_is_legal =
     looked_four_is_legal
-    ▸ may_read (may_act refl refl refl refl refl) (refl, refl) refl tt refl
-    ▸ may_be_done refl refl tt
-    ▸ may_commit refl refl refl refl refl refl
-    ▸ may_end refl (inl refl) refl refl refl
+    ▸ may_read refl (may_act refl refl refl refl refl) (refl, refl) refl tt refl
+    ▸ may_be_done refl refl refl tt
+    ▸ may_commit refl refl refl refl refl refl refl
+    ▸ may_end refl refl (inl (no_more refl refl)) refl refl refl
 
 -- not in another order
 rows_swapped : IsLegal (terms_with four) (looked_four ++ Read 8 (name_a ∷ name_b ∷ []) ((int 2 ∷ int 5 ∷ []) ∷ (int 1 ∷ int 5 ∷ []) ∷ []) ∷ []) → ⊥
@@ -170,7 +170,7 @@ four_found = refl
 
 -- A block adds the column twice.
 abbrev twice : List ScriptBlock
-twice = record { session = 0; script = add_column ∷ add_column ∷ [] } ∷ []
+twice = record { session = 0; script = Ok (add_column ∷ add_column ∷ []) } ∷ []
 
 abbrev twice_added : List Entry
 twice_added = ended_create ++ Give 0 1 ∷ Start 0 levels.ReadCommitted ∷ Lock 8 3 AccessExclusive ∷ Look 8 ∷ Alter 8 3 0 [] ∷ Done 0 (replies.Tag tags.AlterTable 0) ∷ Look 8 ∷ Refuse 0 (causes.TwiceColumn name_b) ∷ Abort 8 ∷ End 0 ∷ []
@@ -180,20 +180,20 @@ twice_added_is_legal : IsLegal (terms_with twice) twice_added
 twice_added_is_legal =
     create_is_legal twice
     ▸ may_give (omega arith) refl refl refl refl tt
-    ▸ may_start refl refl refl tt
-    ▸ may_lock refl refl refl refl refl refl refl tt tt
-    ▸ may_look refl refl refl refl refl refl tt refl
-    ▸ may_alter (may_act refl refl refl refl refl) (refl, λ c there. absurd c.demand) refl refl tt refl
-    ▸ may_be_done refl refl tt
-    ▸ may_look refl refl refl refl refl refl tt refl
-    ▸ may_refuse refl refl tt
-    ▸ may_abort refl (inl refl) refl refl
-    ▸ may_end refl (inr refl) refl refl refl
+    ▸ may_start refl refl refl refl tt
+    ▸ may_lock refl refl refl refl refl refl refl refl tt tt
+    ▸ may_look refl refl refl refl refl refl refl tt refl
+    ▸ may_alter refl (may_act refl refl refl refl refl) (refl, λ c there. absurd c.demand) refl refl tt refl
+    ▸ may_be_done refl refl refl tt
+    ▸ may_look refl refl refl refl refl refl refl tt refl
+    ▸ may_refuse refl refl refl tt
+    ▸ may_abort refl refl (inl refl) refl refl
+    ▸ may_end refl refl (inr refl) refl refl refl
 
 -- and the first is undone with it
 first_undone : committed (terms_with twice) (reverse twice_added) ≡ narrow [] ∷ []
 first_undone = refl
 
 -- a block without statements ends at once, without a transaction
-empty_block : IsLegal (terms_of 1 (record { session = 0; script = [] } ∷ [])) (Give 0 0 ∷ End 0 ∷ [])
-empty_block = tt ▸ may_give (omega arith) refl refl refl refl tt ▸ may_end refl (inl refl) refl refl tt
+empty_block : IsLegal (terms_of 1 (record { session = 0; script = Ok ([]) } ∷ [])) (Give 0 0 ∷ End 0 ∷ [])
+empty_block = tt ▸ may_give (omega arith) refl refl refl refl tt ▸ may_end refl refl (inl (no_more refl refl)) refl refl tt

@@ -18,7 +18,7 @@ use Rattle.al_history.specs.Legal.{IsLegal}
 use Rattle.al_history.specs.Whole.{Driven, IsWhole, IsRun, AreRuns}
 use Rattle.al_history.proofs.Vectors.{name_a, int, alone, select, terms, filled_with, spec, spec_with, given_create, ended_insert, ended_alter, ended_select, journal, insert_is_legal, alter_is_legal, select_is_legal, journal_is_legal, journal_is_whole, IsAtRest, at_rest, zero_below, idle, rest_after_insert, driven_insert}
 use Rattle.al_history.proofs.VectorsCauses.{add_again, again, spec_again, ended_again, failed, again_is_legal, failed_is_legal, failed_is_whole}
-use Rattle.al_history.proofs.VectorsRules.{◌▸◌, in_turn_seven, in_turn_eight, may_give, may_start, may_lock, may_look, may_act, may_read, may_alter, may_be_done, may_refuse, may_commit, may_abort, may_end, may_close, false_true}
+use Rattle.al_history.proofs.VectorsRules.{◌▸◌, in_turn_seven, in_turn_eight, may_give, may_start, may_lock, may_look, may_act, may_read, may_alter, may_be_done, may_refuse, may_commit, may_abort, may_end, may_close, false_true, no_more}
 use Rattle.al_history.proofs.Views.{hold_always}
 
 -- a run of this number and this outcome of its setup, with this journal
@@ -122,13 +122,13 @@ gone_on_is_legal : IsLegal again gone_on
 gone_on_is_legal =
     again_is_legal
     ▸ may_give (omega arith) refl refl refl refl tt
-    ▸ may_start refl refl refl tt
-    ▸ may_lock refl refl refl refl refl refl refl tt tt
-    ▸ may_look refl refl refl refl refl refl tt refl
-    ▸ may_alter (may_act refl refl refl refl refl) (refl, λ c there. absurd c.demand) refl refl tt refl
-    ▸ may_be_done refl refl tt
-    ▸ may_commit refl refl refl refl refl refl
-    ▸ may_end refl (inl refl) refl refl refl
+    ▸ may_start refl refl refl refl tt
+    ▸ may_lock refl refl refl refl refl refl refl refl tt tt
+    ▸ may_look refl refl refl refl refl refl refl tt refl
+    ▸ may_alter refl (may_act refl refl refl refl refl) (refl, λ c there. absurd c.demand) refl refl tt refl
+    ▸ may_be_done refl refl refl tt
+    ▸ may_commit refl refl refl refl refl refl refl
+    ▸ may_end refl refl (inl (no_more refl refl)) refl refl refl
     ▸ may_close (omega arith) refl refl refl refl tt
     ▸ may_close (omega arith) refl refl refl refl tt
 
@@ -154,7 +154,7 @@ later_first = both_given ++ Start 1 levels.ReadCommitted ∷ []
 
 -- that is legal,
 later_first_is_legal : IsLegal terms later_first
-later_first_is_legal = both_given_is_legal ▸ may_start refl refl refl tt
+later_first_is_legal = both_given_is_legal ▸ may_start refl refl refl refl tt
 
 -- but not its turn
 later_first_is_no_turn : Driven terms (reverse later_first) → ⊥
@@ -181,20 +181,20 @@ refused_journal_is_legal : IsLegal (filled_with refused_steps) refused_journal
 refused_journal_is_legal =
     insert_is_legal refused_steps
     ▸ may_give (omega arith) refl refl refl refl tt
-    ▸ may_start refl refl refl tt
-    ▸ may_lock refl refl refl refl refl refl refl tt tt
-    ▸ may_look refl refl refl refl refl refl tt refl
-    ▸ may_refuse refl refl tt
-    ▸ may_abort refl (inl refl) refl refl
-    ▸ may_end refl (inr refl) refl refl refl
+    ▸ may_start refl refl refl refl tt
+    ▸ may_lock refl refl refl refl refl refl refl refl tt tt
+    ▸ may_look refl refl refl refl refl refl refl tt refl
+    ▸ may_refuse refl refl refl tt
+    ▸ may_abort refl refl (inl refl) refl refl
+    ▸ may_end refl refl (inr refl) refl refl refl
     ▸ may_give (omega arith) refl refl refl refl tt
-    ▸ may_start refl refl refl tt
-    ▸ may_lock refl refl refl refl refl refl refl tt tt
-    ▸ may_look refl refl refl refl refl refl tt tt
-    ▸ may_read (may_act refl refl refl refl refl) (refl, refl) refl tt tt
-    ▸ may_be_done refl refl tt
-    ▸ may_commit refl refl refl refl refl refl
-    ▸ may_end refl (inl refl) refl refl refl
+    ▸ may_start refl refl refl refl tt
+    ▸ may_lock refl refl refl refl refl refl refl refl tt tt
+    ▸ may_look refl refl refl refl refl refl refl tt tt
+    ▸ may_read refl (may_act refl refl refl refl refl) (refl, refl) refl tt tt
+    ▸ may_be_done refl refl refl tt
+    ▸ may_commit refl refl refl refl refl refl refl
+    ▸ may_end refl refl (inl (no_more refl refl)) refl refl refl
     ▸ may_close (omega arith) refl refl refl refl tt
     ▸ may_close (omega arith) refl refl refl refl tt
 

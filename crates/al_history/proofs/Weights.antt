@@ -53,7 +53,7 @@ module _ (terms : Terms) (past : Past) (x next : ℕ) (statement : Statement) (u
   fits_after : (look : Past) → look_of past (session_of past x) ≡ Some look → acts_of past (session_of past x) ≡ [] → weight_after statement [] (name_taker past x statement) (latest terms past x) (latest terms look x) ≡ Some next → weight past + next ≤ terms.weight
   fits_after look looked none_done weighs =
       let judged : cause_at terms past x statement (acts_of past (session_of past x)) (look_of past (session_of past x)) ≡ None = judged_clear terms past (session_of past x) x statement unrefused is own in
-      let clear : limit_cause terms past x (weight_after statement [] (name_taker past x statement) (latest terms past x) (latest terms look x)) ≡ None = rest_clear _ _ (rw (looked, none_done) at judged) in
+      let clear : limit_cause terms past x (weight_after statement [] (name_taker past x statement) (latest terms past x) (latest terms look x)) ≡ None = rest_clear _ _ (rest_clear _ _ (rw (looked, none_done) at judged)) in
       over_fits terms past next (rw (free, weighs) at clear)
 
 -- ---- before the Look
@@ -174,7 +174,7 @@ weighs terms [] legal = omega arith
 weighs terms (Wait x (wants.Table table mode) ∷ past) legal = wait_for_lock_weighs terms past x table mode legal.0.rule
 weighs terms (Wait x (wants.Ends y) ∷ past) legal = wait_for_end_weighs terms past x y legal.0.rule
 weighs terms (Lock x table mode ∷ past) legal = by_asked legal.0.rule.asked (weighs terms past legal.1) where
-  by_asked : WaitsForLock past (claim past x table mode) ⊎ LacksLock terms past x (claim past x table mode) → weight past ≤ terms.weight → cond (is_waiting past (claim past x table mode)) (weight past) (weight past + 1) ≤ terms.weight
+  by_asked : WaitsForLock past (claim past x table mode) ⊎ LacksLock terms past x (claim past x table mode) → weight past ≤ terms.weight → weight (Lock x table mode ∷ past) ≤ terms.weight
   by_asked (inl waited) before = rw waited.waits before
   by_asked (inr lacks) before = rw lacks.not_waiting (lacked_weighs terms past x table mode legal.1 legal.0.follows legal.0.rule.open_xact legal.0.rule.can_be lacks)
 weighs terms (Look x ∷ past) legal = look_weighs terms past x legal

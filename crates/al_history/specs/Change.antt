@@ -1,5 +1,5 @@
 -- What CREATE TABLE, INSERT and ALTER TABLE do to a database (CREATE TABLE, INSERT, ALTER TABLE in Part VI).
-use Rattle.std.specs.Prelude.{◌≡◌, ℕ, List, [], ◌∷◌, ◌++◌, ◌+◌, ◌==◌, nat_lt, not, cond, ◌||◌, ◌&&◌, map, length, drop, Option, Some, Result, Ok, Err, is_some, Contains}
+use Rattle.std.specs.Prelude.{◌≡◌, ℕ, List, [], ◌∷◌, ◌++◌, ◌+◌, ◌==◌, nat_lt, not, cond, ◌||◌, ◌&&◌, map, length, drop, Option, Some, None, Result, Ok, Err, is_some, Contains}
 use Rattle.al_values.specs.declared.scalar.Value.{Value}
 use Rattle.al_values.specs.declared.scalar.Value.TheVariants as values
 use Rattle.al_history.specs.declared.entry.Cause.{Cause}
@@ -38,10 +38,18 @@ pub record Alteration : Type 0 where
   pub row_map : List Value → List Value
   pub tests : List Constraint
 
--- ADD COLUMN is refused where the column is there already, and else where the table has as many as it may have. Else it puts the column at the end, each row has its default
--- there, and nothing is tested.
+-- ADD COLUMN is refused where the column is there already, and else where the table has as many as it may have
+abbrev pub column_cause : List ℕ → List Column → Option Cause
+column_cause name columns = cond (has_column columns name) (Some (causes.TwiceColumn name)) (cond (nat_lt (length columns) most_columns) None (Some (causes.Limit limits.Columns (length columns + 1))))
+
+-- unless it is refused
+abbrev pub unless_refused : Option Cause → Alteration → Result Alteration Cause
+unless_refused None alteration = Ok alteration
+unless_refused (Some cause) alteration = Err cause
+
+-- ADD COLUMN puts the column at the end, each row has its default there, and nothing is tested
 abbrev pub alteration : Column → Table → Result Alteration Cause
-alteration column t = cond (has_column t.columns column.name) (Err (causes.TwiceColumn column.name)) (cond (nat_lt (length t.columns) most_columns) (Ok (record { columns = t.columns ++ column ∷ []; row_map = λ row. row ++ column.default ∷ []; tests = [] })) (Err (causes.Limit limits.Columns (length t.columns + 1))))
+alteration column t = unless_refused (column_cause column.name t.columns) (record { columns = t.columns ++ column ∷ []; row_map = λ row. row ++ column.default ∷ []; tests = [] })
 
 -- the table after the command, or as it was where the command is refused. Rows keep their numbers and versions.
 abbrev pub after_alteration : Result Alteration Cause → Table → Table

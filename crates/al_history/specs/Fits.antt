@@ -1,15 +1,16 @@
 -- When the one list serves a reader: what has to be known of its past.
-use Rattle.std.specs.Prelude.{◌≡◌, ℕ, List, [], ◌∷◌, Bool, true, false, length, Some, is_some}
+use Rattle.std.specs.Prelude.{◌≡◌, ℕ, List, [], ◌∷◌, Bool, true, false, length, Some, None, is_some}
 use Rattle.al_values.specs.declared.scalar.Value.{Value}
 use Rattle.al_history.specs.declared.entry.Entry.TheVariants.{Make, Add, Alter, Commit, Abort}
 use Rattle.al_history.specs.declared.statement.Column.{Column}
 use Rattle.al_history.specs.declared.statement.Statement.TheVariants as statements
 use Rattle.al_history.specs.declared.statement.Terms.{Terms}
 use Rattle.al_history.specs.Past.{Past}
-use Rattle.al_history.specs.Database.{named, has_column}
+use Rattle.al_history.specs.Database.{named}
 use Rattle.al_history.specs.Fate.{Open, Committed, Aborted, fate}
 use Rattle.al_history.specs.Hand.{hand, session_of, statement_of}
 use Rattle.al_history.specs.Store.{Slot, KeptTable, shown_columns, shown, sees, store}
+use Rattle.al_history.specs.Change.{column_cause}
 
 -- a set of transactions that a reader may see: all that are committed, and none that is aborted
 pub record CanSee (past : Past) (f : ℕ → Bool) : Type 0 where
@@ -37,7 +38,7 @@ pub record AddFits (terms : Terms) (past : Past) (x table : ℕ) (row : List Val
 
 -- who sees a new column sees no other of its name
 pub record AlterFits (terms : Terms) (past : Past) (x table statement : ℕ) : Type 0 where
-  pub absent : (f : ℕ → Bool) → CanSee past f → f x ≡ true → (name : List ℕ) (column : Column) → statement_of terms (hand past (session_of past x)) statement ≡ Some (statements.AddColumn name column) → EachOf table (λ t. f t.maker ≡ true → has_column (shown_columns f t.slots) column.name ≡ false) (store terms past)
+  pub absent : (f : ℕ → Bool) → CanSee past f → f x ≡ true → (name : List ℕ) (column : Column) → statement_of terms (hand past (session_of past x)) statement ≡ Some (statements.AddColumn name column) → EachOf table (λ t. f t.maker ≡ true → column_cause column.name (shown_columns f t.slots) ≡ None) (store terms past)
 
 abbrev pub Fits : Terms → Past → Type 0
 Fits terms [] = Unit {0}

@@ -41,7 +41,7 @@ done-requires-clause-amid c =
     let h = has_table c.args.terms.now (parts_of c.args.machine.now) c.args.session c.args.seat c.args.xact (statements.AddColumn c.requires.locked.0 c.args.column.now) c.requires.locked.0 c.args.at c.index-table.result.now c.requires.locked.1 refl c.index-table.ensures in
     let q : Parts = parts_of c.note_heavy-3.new.machine in
     let looked : past_of c.note_heavy-2.new.machine.journal ≡ Look c.args.xact ∷ past_of c.args.machine.now.journal = pushed _ _ c.reserve.new.self c.args.machine.now.journal c.note_heavy-2.ensures.past c.in_ok-reserve.ensures.entries in
-    let past_is : past_of q.journal ≡ Alter c.args.xact c.index-table.result.now.number 0 [] ∷ Look c.args.xact ∷ past_of c.args.machine.now.journal = (rw c.new.ensures at c.note_heavy-3.ensures.past) ∙ ap (λ (past : Past). Alter c.args.xact c.index-table.result.now.number 0 [] ∷ past) looked in
+    let past_is : past_of q.journal ≡ Alter c.args.xact c.index-table.result.now.number c.args.seat.done [] ∷ Look c.args.xact ∷ past_of c.args.machine.now.journal = (rw c.new.ensures at c.note_heavy-3.ensures.past) ∙ ap (λ (past : Past). Alter c.args.xact c.index-table.result.now.number c.args.seat.done [] ∷ past) looked in
     let still : StaysBut (parts_of c.args.machine.now) q = stays (parts_of c.args.machine.now) q _ past_is (c.note_heavy-3.ensures.sessions ∙ c.note_heavy-2.ensures.sessions) (c.note_heavy-3.ensures.locks ∙ c.note_heavy-2.ensures.locks) (c.note_heavy-3.ensures.committed ∙ c.note_heavy-2.ensures.committed) (omega (arith, c.note_heavy-3.ensures.room, c.note_heavy-2.ensures.room, c.in_ok-reserve.ensures.ok)) refl refl (omega (arith, c.note_heavy-3.ensures.weight, c.note_heavy-2.ensures.weight, c.requires.locked.1.uses.kept.sound.weighed)) in
     let fits = sym (first_both _ _ _ _ _ c.first_of.ensures (rw c.as_slice.ensures at c.in_ok-found.ensures) (over_so _ _ _ _ _ _ c.in_ok-over_limit.ensures c.in_ok-so_far.ensures refl)) ∙ c.in_default.is in
     let acted = alter_acts _ _ _ _ _ _ c.args.at c.index-table.result.now h.found h.there c.args.column.now h.uses h.locked h.looks c.in_ok-columns.columns (rw c.deref.ensures.value at c.in_ok-columns.ensures) fits (record { maker = c.args.xact; column = c.in_ok-copied.field-0 }) q refl c.in_ok-copied.ensures still (c.note_heavy-3.ensures.tables ∙ (c.note_heavy-2.ensures.tables ∙ (rw h.there at c.in_ok-push_column.ensures.ok))) past_is in
@@ -52,7 +52,7 @@ done-requires-clause-done c =
     let h = has_table c.args.terms.now (parts_of c.args.machine.now) c.args.session c.args.seat c.args.xact (statements.AddColumn c.requires.locked.0 c.args.column.now) c.requires.locked.0 c.args.at c.index-table.result.now c.requires.locked.1 refl c.index-table.ensures in
     let q : Parts = parts_of c.note_heavy-3.new.machine in
     let looked : past_of c.note_heavy-2.new.machine.journal ≡ Look c.args.xact ∷ past_of c.args.machine.now.journal = pushed _ _ c.reserve.new.self c.args.machine.now.journal c.note_heavy-2.ensures.past c.in_ok-reserve.ensures.entries in
-    let past_is : past_of q.journal ≡ Alter c.args.xact c.index-table.result.now.number 0 [] ∷ Look c.args.xact ∷ past_of c.args.machine.now.journal = (rw c.new.ensures at c.note_heavy-3.ensures.past) ∙ ap (λ (past : Past). Alter c.args.xact c.index-table.result.now.number 0 [] ∷ past) looked in
+    let past_is : past_of q.journal ≡ Alter c.args.xact c.index-table.result.now.number c.args.seat.done [] ∷ Look c.args.xact ∷ past_of c.args.machine.now.journal = (rw c.new.ensures at c.note_heavy-3.ensures.past) ∙ ap (λ (past : Past). Alter c.args.xact c.index-table.result.now.number c.args.seat.done [] ∷ past) looked in
     let still : StaysBut (parts_of c.args.machine.now) q = stays (parts_of c.args.machine.now) q _ past_is (c.note_heavy-3.ensures.sessions ∙ c.note_heavy-2.ensures.sessions) (c.note_heavy-3.ensures.locks ∙ c.note_heavy-2.ensures.locks) (c.note_heavy-3.ensures.committed ∙ c.note_heavy-2.ensures.committed) (omega (arith, c.note_heavy-3.ensures.room, c.note_heavy-2.ensures.room, c.in_ok-reserve.ensures.ok)) refl refl (omega (arith, c.note_heavy-3.ensures.weight, c.note_heavy-2.ensures.weight, c.requires.locked.1.uses.kept.sound.weighed)) in
     let fits = sym (first_both _ _ _ _ _ c.first_of.ensures (rw c.as_slice.ensures at c.in_ok-found.ensures) (over_so _ _ _ _ _ _ c.in_ok-over_limit.ensures c.in_ok-so_far.ensures refl)) ∙ c.in_default.is in
     let acted = alter_acts _ _ _ _ _ _ c.args.at c.index-table.result.now h.found h.there c.args.column.now h.uses h.locked h.looks c.in_ok-columns.columns (rw c.deref.ensures.value at c.in_ok-columns.ensures) fits (record { maker = c.args.xact; column = c.in_ok-copied.field-0 }) q refl c.in_ok-copied.ensures still (c.note_heavy-3.ensures.tables ∙ (c.note_heavy-2.ensures.tables ∙ (rw h.there at c.in_ok-push_column.ensures.ok))) past_is in
@@ -63,7 +63,7 @@ returns-clause-went c =
     let h = has_table c.args.terms.now (parts_of c.args.machine.now) c.args.session c.args.seat c.args.xact (statements.AddColumn c.requires.locked.0 c.args.column.now) c.requires.locked.0 c.args.at c.index-table.result.now c.requires.locked.1 refl c.index-table.ensures in
     let q : Parts = parts_of c.note_heavy-3.new.machine in
     let looked : past_of c.note_heavy-2.new.machine.journal ≡ Look c.args.xact ∷ past_of c.args.machine.now.journal = pushed _ _ c.reserve.new.self c.args.machine.now.journal c.note_heavy-2.ensures.past c.in_ok-reserve.ensures.entries in
-    let past_is : past_of q.journal ≡ Alter c.args.xact c.index-table.result.now.number 0 [] ∷ Look c.args.xact ∷ past_of c.args.machine.now.journal = (rw c.new.ensures at c.note_heavy-3.ensures.past) ∙ ap (λ (past : Past). Alter c.args.xact c.index-table.result.now.number 0 [] ∷ past) looked in
+    let past_is : past_of q.journal ≡ Alter c.args.xact c.index-table.result.now.number c.args.seat.done [] ∷ Look c.args.xact ∷ past_of c.args.machine.now.journal = (rw c.new.ensures at c.note_heavy-3.ensures.past) ∙ ap (λ (past : Past). Alter c.args.xact c.index-table.result.now.number c.args.seat.done [] ∷ past) looked in
     let still : StaysBut (parts_of c.args.machine.now) q = stays (parts_of c.args.machine.now) q _ past_is (c.note_heavy-3.ensures.sessions ∙ c.note_heavy-2.ensures.sessions) (c.note_heavy-3.ensures.locks ∙ c.note_heavy-2.ensures.locks) (c.note_heavy-3.ensures.committed ∙ c.note_heavy-2.ensures.committed) (omega (arith, c.note_heavy-3.ensures.room, c.note_heavy-2.ensures.room, c.in_ok-reserve.ensures.ok)) refl refl (omega (arith, c.note_heavy-3.ensures.weight, c.note_heavy-2.ensures.weight, c.requires.locked.1.uses.kept.sound.weighed)) in
     let fits = sym (first_both _ _ _ _ _ c.first_of.ensures (rw c.as_slice.ensures at c.in_ok-found.ensures) (over_so _ _ _ _ _ _ c.in_ok-over_limit.ensures c.in_ok-so_far.ensures refl)) ∙ c.in_default.is in
     let acted = alter_acts _ _ _ _ _ _ c.args.at c.index-table.result.now h.found h.there c.args.column.now h.uses h.locked h.looks c.in_ok-columns.columns (rw c.deref.ensures.value at c.in_ok-columns.ensures) fits (record { maker = c.args.xact; column = c.in_ok-copied.field-0 }) q refl c.in_ok-copied.ensures still (c.note_heavy-3.ensures.tables ∙ (c.note_heavy-2.ensures.tables ∙ (rw h.there at c.in_ok-push_column.ensures.ok))) past_is in

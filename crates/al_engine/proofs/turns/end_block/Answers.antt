@@ -1,19 +1,23 @@
 use Rattle.std.proofs.Common.{arith, refl}
 use Rattle.al_engine.specs.declared.sessions.Block.TheVariants as blocks
 use Rattle.al_engine.specs.Kept.{parts_of}
-use Rattle.al_engine.proofs.BlockLemmas.{over_room, over_kept, over_went, end_closes}
+use Rattle.al_engine.proofs.BlockLemmas.{end_closes}
+use Rattle.al_engine.proofs.OverLemmas.{over_room, passed_kept, passed_went}
 use Rattle.al_engine.proofs.turns.end_block.Goals as goal
 
 pub note-requires : goal.note-requires
 note-requires c = omega (arith, over_room _ _ _ _ _ _ _ _ _ c.end_xact.ensures.over)
 
-pub end_step-requires-clause-room : goal.end_step-requires-clause-room
-end_step-requires-clause-room c = omega (arith, over_room _ _ _ _ _ _ _ _ _ c.end_xact.ensures.over, c.note.ensures.room)
+pub pass-requires-clause-room : goal.pass-requires-clause-room
+pass-requires-clause-room c = omega (arith, over_room _ _ _ _ _ _ _ _ _ c.end_xact.ensures.over, c.note.ensures.room)
+
+pub pass-requires-clause-few : goal.pass-requires-clause-few
+pass-requires-clause-few c = rw c.out_of_block.ensures c.end_xact.ensures.over.is_last.counted.few
 
 pub returns-clause-kept : goal.returns-clause-kept
 returns-clause-kept c =
     let m = c.end_xact.new.machine in
-    over_kept _ _ _ _ _ _ _ _ _ c.end_xact.ensures.over (parts_of (record { journal = c.note.new.self; sessions = m.sessions; tables = m.tables; locks = m.locks; committed = m.committed; weight = m.weight })) _ blocks.Outside (end_closes c.args.seat c.args.commits) (rw c.end_tag-tag.ensures at c.note.ensures.past) c.note.ensures.room refl refl refl refl refl c.end_step.ensures.past c.end_step.ensures.room (rw c.out_of_block.ensures at c.end_step.ensures.sessions) c.end_step.ensures.tables c.end_step.ensures.locks c.end_step.ensures.committed c.end_step.ensures.weight
+    passed_kept _ _ _ _ _ _ _ _ _ c.end_xact.ensures.over (parts_of (record { journal = c.note.new.self; sessions = m.sessions; tables = m.tables; locks = m.locks; committed = m.committed; weight = m.weight })) _ _ blocks.Outside (end_closes c.args.seat c.args.commits) c.out_of_block.ensures (rw c.end_tag-tag.ensures at c.note.ensures.past) c.note.ensures.room refl refl refl refl refl c.pass.ensures.past c.pass.ensures.room c.pass.ensures.sessions c.pass.ensures.tables c.pass.ensures.locks c.pass.ensures.committed c.pass.ensures.weight
 
 pub returns-clause-went : goal.returns-clause-went
-returns-clause-went c = over_went _ _ _ _ _ _ _ _ _ c.end_xact.ensures.over _ (rw (c.note.ensures.past, c.end_tag-tag.ensures) at c.end_step.ensures.past)
+returns-clause-went c = passed_went _ _ _ _ _ _ _ _ _ c.end_xact.ensures.over _ (rw (c.note.ensures.past, c.end_tag-tag.ensures, c.out_of_block.ensures) at c.pass.ensures.past)

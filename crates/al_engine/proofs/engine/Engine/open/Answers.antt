@@ -3,4 +3,4 @@ use Rattle.al_engine.proofs.EngineLemmas.{open_keeps}
 use Rattle.al_engine.proofs.engine.Engine.open.Goals as goal
 
 pub invariant_of-result : goal.invariant_of-result
-invariant_of-result c = open_keeps _ _ (search rules) (search rules) (search rules) (search rules) (search rules) (search rules) refl c.requires
+invariant_of-result c = open_keeps _ _ (search rules) (search rules) (search rules) (search rules) (search rules) (search rules) refl

@@ -1,5 +1,5 @@
 use Rattle.std.proofs.lemmas.Result.{err_from_is_err_and}
-use Rattle.std.proofs.Common.{sym, refl}
+use Rattle.std.proofs.Common.{sym, refl, arith}
 use Rattle.al_engine.proofs.EngineLemmas.{got, statement_there, is_idle, goes, waits_by, same_keeps, turn_went}
 use Rattle.al_engine.proofs.engine.Engine.turn.Goals as goal
 
@@ -27,7 +27,7 @@ invariant_of-self g c = same_keeps _ _ _ c.in_err-refused.ensures.err c.self.inv
 pub returns-clause-ok : goal.returns-clause-ok
 returns-clause-ok g c =
     let there = got _ _ c.self.invariant _ c.index.result.now (rw (← c.self.view_is) at c.requires.known) c.index.ensures in
-    rw (← c.self.view_is, c.len-from.ensures.past, c.len-to.ensures.past) (turn_went _ _ _ _ _ _ c.self.invariant there c.if-is_none.ensures (sym (rw c.deref.ensures.value at c.if-is_held_up.ensures)) c.in_ok-refused.ensures.went)
+    rw (← c.self.view_is, c.len-from.ensures.past, c.len-to.ensures.past) (turn_went _ _ _ _ _ _ c.self.invariant there c.if-is_none.ensures (sym (rw c.deref.ensures.value at c.if-is_held_up.ensures)) c.in_ok-refused.ensures.went (omega (arith, c.len-from.ensures.few, c.len-from.ensures.past)))
 
 pub returns-in_err-refused-clause-light : goal.returns-in_err-refused-clause-light
 returns-in_err-refused-clause-light g c =
