@@ -21,7 +21,7 @@ use Rattle.al_history.proofs.Views.{hold_always}
 use Rattle.al_engine.specs.Ran.{Ran, IsLegalRun, IsClosed}
 use Rattle.al_app.specs.declared.runs.Teardowns.{Teardowns}
 use Rattle.al_app.specs.declared.runs.Teardowns.TheVariants as teardowns
-use Rattle.al_app.specs.Sound.{IsSound}
+use Rattle.al_spec.specs.Sound.{IsSound}
 use Rattle.al_app.specs.Runs.{terms_for, HasLeft, left_when, tasks_from, after_closes, after_teardowns, after_cancels, after_steps, IsAtRest, AreOfSetup, failed_by, CancelsIfBusy, WasCancelled, IsNoneBusy, IsAnyOpen, HasRunWhole, SetupFailed, StepsRan, SessionsCancelled, is_of, AreOpenFor, TeardownsRan, SessionsClosed, failed_block, IsEnded, HasRunOne}
 use Rattle.al_app.proofs.QuietLemmas.{quietly_aborted, left_aborted}
 use Rattle.al_app.proofs.LeftLemmas.{moves_same, then_left, left_none, tasks_here, tasks_skip, tasks_end}

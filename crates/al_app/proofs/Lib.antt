@@ -5,3 +5,5 @@ pub mod SpecLemmas
 pub mod RunLemmas
 pub mod CloseLemmas
 pub mod ReportLemmas
+pub mod TopLemmas
+pub mod AnswerLemmas

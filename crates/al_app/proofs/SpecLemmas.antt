@@ -1,6 +1,7 @@
 -- A spec of a file, and its blocks.
 use Rattle.std.proofs.Common.{◌≡◌, ℕ, zero, suc, ◌+◌, ◌<◌, ◌≤◌, List, [], ◌∷◌, ◌++◌, length, take, refl, sym, ap, subst, Some, None, true, false, arith, ◌∙◌, slice_get, option_map}
 use Rattle.std.specs.List.{AllByRecursion}
+use Rattle.al_spec.specs.Keeps.{Each}
 use Rattle.al_spec.specs.declared.spec.Part.{Part}
 use Rattle.al_spec.specs.declared.spec.Part.TheVariants as parts
 use Rattle.al_spec.specs.declared.spec.Block.{Block}
@@ -9,18 +10,18 @@ use Rattle.al_history.specs.declared.statement.ScriptBlock.{ScriptBlock}
 use Rattle.al_history.specs.declared.statement.Scripts.{Scripts}
 use Rattle.al_history.specs.Whole.{is_setup, is_session_teardown, is_teardown, session_for, of_setup}
 use Rattle.al_engine.specs.Ran.{IsOfSession, AreOfSessions}
-use Rattle.al_app.specs.Sound.{IsSessionOf, IsPlaced, IsStepAt, IsSound}
+use Rattle.al_spec.specs.Sound.{PartFits, BlockFits, IsStepAt, IsSound}
 use Rattle.al_app.specs.Scripts.{EachWith, IsScriptOf, AreScripts}
 use Rattle.al_app.specs.Runs.{IsRunnable}
 
-all_at : {A : Type 0} (P : A → Type 0) (items : List A) (at : ℕ) (item : A) → AllByRecursion P items → slice_get items at ≡ Some item → P item
+pub all_at : {A : Type 0} (P : A → Type 0) (items : List A) (at : ℕ) (item : A) → Each P items → slice_get items at ≡ Some item → P item
 all_at P [] at item all is = absurd cc
 all_at P (i ∷ items) zero item all is = let e : i ≡ item = cc in subst P e all.0
 all_at P (i ∷ items) (suc at) item all is = all_at P items at item all.1 is
 
 -- ---- sessions
 
-known_of : (part : Part) (sessions s : ℕ) → IsSessionOf part sessions s → s ≤ sessions
+known_of : (part : Part) (sessions s : ℕ) → PartFits part sessions s → s ≤ sessions
 known_of parts.Setup sessions s is = omega (arith, is)
 known_of parts.Teardown sessions s is = omega (arith, is)
 known_of parts.SessionSetup sessions s is = is.1
@@ -28,9 +29,9 @@ known_of parts.Step sessions s is = is.1
 known_of parts.SessionTeardown sessions s is = is.1
 
 pub block_known : (spec : Spec) (number : ℕ) (block : Block) → IsSound spec → slice_get spec.blocks number ≡ Some block → block.session ≤ length spec.sessions
-block_known spec number block sound there = known_of block.part (length spec.sessions) block.session (all_at (IsPlaced (length spec.sessions)) spec.blocks number block sound.placed there)
+block_known spec number block sound there = known_of block.part (length spec.sessions) block.session (all_at (BlockFits (length spec.sessions)) spec.blocks number block sound.blocks there)
 
-control_of : (part : Part) (sessions s : ℕ) → IsSessionOf part sessions s → is_teardown part ≡ true → s ≡ 0
+control_of : (part : Part) (sessions s : ℕ) → PartFits part sessions s → is_teardown part ≡ true → s ≡ 0
 control_of parts.Setup sessions s is test = is
 control_of parts.Teardown sessions s is test = is
 control_of parts.SessionSetup sessions s is test = absurd cc
@@ -39,7 +40,7 @@ control_of parts.SessionTeardown sessions s is test = absurd cc
 
 -- the main teardown block is given to the control session
 pub teardown_session : (spec : Spec) (number : ℕ) (block : Block) → IsSound spec → slice_get spec.blocks number ≡ Some block → is_teardown block.part ≡ true → block.session ≡ 0
-teardown_session spec number block sound there test = control_of block.part (length spec.sessions) block.session (all_at (IsPlaced (length spec.sessions)) spec.blocks number block sound.placed there) test
+teardown_session spec number block sound there test = control_of block.part (length spec.sessions) block.session (all_at (BlockFits (length spec.sessions)) spec.blocks number block sound.blocks there) test
 
 -- the session that a block of the spec is given to
 pub session_of_block : (spec : Spec) (number : ℕ) (block : Block) → slice_get spec.blocks number ≡ Some block → session_for spec number ≡ block.session
@@ -61,7 +62,7 @@ of_session_at spec scripts number block runnable there = each_at spec.blocks scr
 pub session_known : (spec : Spec) (scripts : Scripts) (number : ℕ) (block : Block) → IsRunnable spec scripts → slice_get spec.blocks number ≡ Some block → block.session < scripts.sessions
 session_known spec scripts number block runnable there = omega (arith, block_known spec number block runnable.sound there, runnable.are_scripts.sessions)
 
-all_known : (sessions : ℕ) (blocks : List Block) (scripts : List ScriptBlock) (all : ℕ) → all ≡ sessions + 1 → AllByRecursion (IsPlaced sessions) blocks → EachWith IsScriptOf blocks scripts → AllByRecursion (IsOfSession all) scripts
+all_known : (sessions : ℕ) (blocks : List Block) (scripts : List ScriptBlock) (all : ℕ) → all ≡ sessions + 1 → Each (BlockFits sessions) blocks → EachWith IsScriptOf blocks scripts → AllByRecursion (IsOfSession all) scripts
 all_known sessions [] [] all n placed each = tt
 all_known sessions [] (s ∷ scripts) all n placed each = absurd each
 all_known sessions (b ∷ blocks) [] all n placed each = absurd each
@@ -72,7 +73,7 @@ all_known sessions (b ∷ blocks) (s ∷ scripts) all n placed each =
 
 -- the sessions of all blocks are the run's
 pub are_of_sessions : (spec : Spec) (scripts : Scripts) → IsRunnable spec scripts → AreOfSessions scripts
-are_of_sessions spec scripts runnable = all_known (length spec.sessions) spec.blocks scripts.blocks scripts.sessions runnable.are_scripts.sessions runnable.sound.placed runnable.are_scripts.each
+are_of_sessions spec scripts runnable = all_known (length spec.sessions) spec.blocks scripts.blocks scripts.sessions runnable.are_scripts.sessions runnable.sound.blocks runnable.are_scripts.each
 
 -- ---- parts
 
@@ -83,15 +84,12 @@ pub of_setup_is : (spec : Spec) (number : ℕ) (block : Block) → slice_get spe
 of_setup_is spec number block there part = rw (there, part) refl
 
 -- a step of a permutation
-pub step_not_setup : (spec : Spec) (steps : List ℕ) (at step : ℕ) (block : Block) → AllByRecursion (IsStepAt spec.blocks) steps → slice_get steps at ≡ Some step → slice_get spec.blocks step ≡ Some block → of_setup spec (Some step) ≡ None
+pub step_not_setup : (spec : Spec) (steps : List ℕ) (at step : ℕ) (block : Block) → Each (IsStepAt spec.blocks) steps → slice_get steps at ≡ Some step → slice_get spec.blocks step ≡ Some block → of_setup spec (Some step) ≡ None
 step_not_setup spec steps at step block all is there =
     let named = all_at (IsStepAt spec.blocks) steps at step all is in
-    let same : named.0 ≡ block = let e : Some named.0 ≡ Some block = sym named.1 ∙ there in cc in
-    let part : block.part ≡ parts.Step = subst (λ (b : Block). b.part ≡ parts.Step) same named.2 in
+    let same : named.block ≡ block = let e : Some named.block ≡ Some block = sym named.there ∙ there in cc in
+    let part : block.part ≡ parts.Step = subst (λ (b : Block). b.part ≡ parts.Step) same named.step in
     of_setup_not spec step block there (rw part refl)
-
-pub step_there : (spec : Spec) (steps : List ℕ) (at step : ℕ) → AllByRecursion (IsStepAt spec.blocks) steps → slice_get steps at ≡ Some step → (block : Block) × (slice_get spec.blocks step ≡ Some block)
-step_there spec steps at step all is = let named = all_at (IsStepAt spec.blocks) steps at step all is in (named.0, named.1)
 
 -- ---- two lists, with one item more at the end of each
 

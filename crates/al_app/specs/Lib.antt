@@ -1,8 +1,7 @@
-pub mod Sound
-pub mod Blocks
 pub mod Scripts
 pub mod Runs
 pub mod Report
 pub mod Numbers
 pub mod Answers
 pub mod Top
+pub mod Words

@@ -1,6 +1,5 @@
 -- The report of a call's runs, as bytes (src/test/isolation/README for its lines).
 use Rattle.std.specs.Prelude.{ℕ, ◌+◌, ◌-◌, ◌==◌, nat_le, Bool, true, false, not, ◌&&◌, ◌||◌, if◌then◌else◌, List, [], ◌∷◌, ◌++◌, length, take, drop, reverse, Option, Some, None, slice_get, codes, decimal, flat_map}
-use Rattle.std.specs.Char.{is_ascii_alphabetic, is_ascii_digit}
 use Rattle.std.specs.List.{concat, join_by, range_with_len, count_by, list_all}
 use Rattle.std.specs.Option.{option_map_or}
 use Rattle.std.specs.Str.{bytes_eq}
@@ -23,28 +22,10 @@ use Rattle.al_spec.specs.declared.spec.Block.{Block}
 use Rattle.al_spec.specs.declared.spec.Part.{Part}
 use Rattle.al_spec.specs.declared.spec.Part.TheVariants as parts
 use Rattle.al_spec.specs.declared.spec.Spec.{Spec}
+use Rattle.al_spec.specs.Tokens.{is_plain}
 use Rattle.al_history.specs.Past.{Past}
 
 -- ---- names of sessions and steps
-
--- a letter, `_`, or a byte past ASCII begins a plain name; digits and `$` go on in it too
-abbrev pub begins_plain : ℕ → Bool
-begins_plain b = is_ascii_alphabetic b || (b == 95 || nat_le 128 b)
-
-abbrev pub in_plain : ℕ → Bool
-in_plain b = begins_plain b || (is_ascii_digit b || b == 36)
-
--- the words of spec files
-abbrev pub is_word : List ℕ → Bool
-is_word name =
-    bytes_eq name (codes "setup")
-    || (bytes_eq name (codes "teardown")
-    || (bytes_eq name (codes "session") || (bytes_eq name (codes "step") || bytes_eq name (codes "permutation"))))
-
--- whether a name stands in a spec file without quotes
-unfoldable pub is_plain : List ℕ → Bool
-is_plain [] = false
-is_plain (b ∷ bs) = begins_plain b && (list_all in_plain bs && not (is_word (b ∷ bs)))
 
 abbrev pub doubled : ℕ → List ℕ
 doubled b = if b == 34 then codes "\"\"" else b ∷ []
@@ -64,6 +45,13 @@ abbrev pub many_values_text : ℕ → ℕ → List ℕ
 many_values_text want got =
     concat (codes "42601: INSERT has " ∷ decimal got ∷ codes " values for " ∷ decimal want ∷ codes " columns" ∷ [])
 
+-- why a block that is no script is refused
+abbrev pub syntax_text : ℕ → List ℕ
+syntax_text at = concat (codes "42601: syntax error at byte " ∷ decimal at ∷ [])
+
+abbrev pub not_built_text : ℕ → List ℕ
+not_built_text at = concat (codes "0A000: not supported at byte " ∷ decimal at ∷ [])
+
 -- what a run has a limit of
 abbrev pub limit_name : RunLimit → List ℕ
 limit_name limits.Tables = codes "tables"
@@ -72,8 +60,8 @@ limit_name limits.Journal = codes "journal"
 
 -- why a statement is refused: its SQLSTATE, and what is missing or in the way
 abbrev pub cause_text : Cause → List ℕ
-cause_text (causes.Syntax at) = concat (codes "42601: syntax error at byte " ∷ decimal at ∷ [])
-cause_text (causes.NotInProfile at) = concat (codes "0A000: not supported at byte " ∷ decimal at ∷ [])
+cause_text (causes.Syntax at) = syntax_text at
+cause_text (causes.NotInProfile at) = not_built_text at
 cause_text (causes.NoTable name) = concat (codes "42P01: table \"" ∷ name ∷ codes "\" does not exist" ∷ [])
 cause_text (causes.TwiceTable name) = concat (codes "42P07: table \"" ∷ name ∷ codes "\" already exists" ∷ [])
 cause_text (causes.TwiceColumn name) = concat (codes "42701: column \"" ∷ name ∷ codes "\" already exists" ∷ [])

@@ -16,7 +16,7 @@ use Rattle.al_engine.specs.Ran.{Ran, IsLegalRun, places_left}
 use Rattle.al_app.specs.declared.runs.Teardowns.{Teardowns}
 use Rattle.al_app.specs.declared.runs.Teardowns.TheVariants as teardowns
 use Rattle.al_app.specs.Scripts.{AreScripts}
-use Rattle.al_app.specs.Sound.{IsSound}
+use Rattle.al_spec.specs.Sound.{IsSound}
 
 -- the most that the journal of a run may weigh: the runs of a spec share what a call may hold
 abbrev pub journal_weight : Spec → ℕ

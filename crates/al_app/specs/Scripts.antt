@@ -1,7 +1,5 @@
 -- The blocks of a spec as scripts (src/test/isolation/README; 55.2.2.1 for several statements in one text).
 use Rattle.std.specs.Prelude.{◌≡◌, ◌+◌, ℕ, List, [], ◌∷◌, length, Result, Ok, Err}
-use Rattle.al_values.specs.declared.cant.Cant.{Cant}
-use Rattle.al_values.specs.declared.cant.Cant.TheVariants as cants
 use Rattle.al_spec.specs.declared.spec.Block.{Block}
 use Rattle.al_spec.specs.declared.spec.Spec.{Spec}
 use Rattle.al_history.specs.declared.statement.Statement.{Statement}
@@ -9,7 +7,7 @@ use Rattle.al_history.specs.declared.statement.ScriptBlock.{ScriptBlock}
 use Rattle.al_history.specs.declared.statement.Scripts.{Scripts}
 use Rattle.al_history.specs.declared.statement.SqlFault.{SqlFault}
 use Rattle.al_history.specs.declared.statement.SqlFault.TheVariants as faults
-use Rattle.al_app.specs.Blocks.{IsScript}
+use Rattle.al_blocks.specs.Blocks.{IsScript}
 
 -- two lists, item by item
 abbrev pub EachWith : {A B : Type 0} → (A → B → Type 0) → List A → List B → Type 0
@@ -27,11 +25,6 @@ pub record IsNoScript (text : List ℕ) (fault : SqlFault) : Type 0 where
 abbrev pub IsReadAs : List ℕ → Result (List Statement) SqlFault → Type 0
 IsReadAs text (Ok script) = IsScript text script
 IsReadAs text (Err fault) = IsNoScript text fault
-
--- a refusal's cause; want of memory has none
-abbrev pub IfNoScript : List ℕ → Cant SqlFault → Type 0
-IfNoScript text (cants.Why fault) = IsNoScript text fault
-IfNoScript text cants.NoMemory = Unit {0}
 
 pub record IsScriptOf (block : Block) (script : ScriptBlock) : Type 0 where
   pub session : script.session ≡ block.session

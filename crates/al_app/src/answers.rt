@@ -3,7 +3,8 @@ ghost use Rattle.std.specs.Prelude.{◌≡◌, [], map, IfOk, string_bytes};
 ghost use Rattle.al_outside.specs.Faults.{Rose};
 ghost use Rattle.al_outside.specs.Holding.{Grows, GrowsByFront};
 ghost use Rattle.al_outside.specs.Reading.{IsReadUpTo};
-ghost use Rattle.al_app.specs.Answers.{most_bytes, bad_word, limit_word, fault_line, failed_first, status_of, IsConcluded, IsTold, IsAnswer, IsReadFor, AreLegal, IsComplete};
+ghost use Rattle.al_app.specs.declared.status.Status.TheVariants as statuses;
+ghost use Rattle.al_app.specs.Answers.{most_bytes, usage_line, bad_word, limit_word, fault_line, failed_first, status_of, IsConcluded, IsTold, IsAnswer, IsReadFor, AreLegal, IsComplete};
 
 use crate::status::{Answer, Status};
 use crate::top::{Performed, Stop, failed_first, perform};
@@ -41,6 +42,39 @@ fn conclude<K: Sink>(sink: &mut K, wanted: Status, text: &[u8]) -> Status
     }
 }
 
+/// The status of words that are no text.
+pub fn refuse_words<K: Sink>(sink: &mut K) -> Status
+    ensures { IsConcluded (statuses.Usage 0) (Rose (K.faults sink.old) (K.faults sink.new)) (K.held sink.old) (K.held sink.new) usage_line result }
+{
+    conclude(sink, Status::Usage { word: 0 }, USAGE.as_bytes())
+}
+/// The answer to these words.
+fn answer_words<S: Source, K: Sink>(
+    alloc: Global,
+    words: &[Word],
+    source: &mut S,
+    sink: &mut K,
+) -> Answer
+    ensures answer { IsAnswer words.now (S.left source.old) (S.left source.new) (Rose (S.faults source.old) (S.faults source.new)) (Rose (K.faults sink.old) (K.faults sink.new)) (K.held sink.old) (K.held sink.new) result.runs result.status }
+    ensures read { IsReadFor (S.left source.old) (S.left source.new) result.status }
+    ensures up_to { IsReadUpTo most_bytes (S.left source.old) (S.left source.new) }
+    ensures legal { AreLegal result.runs }
+{
+    if let Some(word) = bad_word(words) {
+        let status = conclude(sink, Status::Usage { word }, USAGE.as_bytes());
+        return without_runs(alloc, status);
+    }
+    match perform(alloc, source) {
+        Ok(performed) => report_runs(sink, performed),
+        Err(Stop::Spec(fault)) => report_fault(alloc, sink, fault),
+        Err(Stop::TooLong) => {
+            let status = conclude(sink, Status::TooLong, LONG.as_bytes());
+            without_runs(alloc, status)
+        }
+        Err(Stop::Fault) => without_runs(alloc, Status::ReadFault),
+        Err(Stop::NoMemory) => without_runs(alloc, Status::NoMemory),
+    }
+}
 /// `alterlive` in a process that starts no thread: the words `race` and its options are none of its grammar.
 ///
 /// It always returns. The status says how the call ended, and the sink's new bytes are the report for `Done` and
@@ -63,20 +97,7 @@ pub fn answer_alone<S: Source, K: Sink>(
     // Which status the bytes decide.
     ensures complete { IsComplete words.now (S.left source.old) (Rose (S.faults source.old) (S.faults source.new)) (Rose (K.faults sink.old) (K.faults sink.new)) result.status }
 {
-    if let Some(word) = bad_word(words) {
-        let status = conclude(sink, Status::Usage { word }, USAGE.as_bytes());
-        return without_runs(alloc, status);
-    }
-    match perform(alloc, source) {
-        Ok(performed) => report_runs(sink, performed),
-        Err(Stop::Spec(fault)) => report_fault(alloc, sink, fault),
-        Err(Stop::TooLong) => {
-            let status = conclude(sink, Status::TooLong, LONG.as_bytes());
-            without_runs(alloc, status)
-        }
-        Err(Stop::Fault) => without_runs(alloc, Status::ReadFault),
-        Err(Stop::NoMemory) => without_runs(alloc, Status::NoMemory),
-    }
+    answer_words(alloc, words, source, sink)
 }
 /// `alterlive`: every command, with threads where a command starts some. So far none does.
 pub fn answer<R: Threads + Wait + Sync, S: Source, K: Sink, G: Gate + Sync>(

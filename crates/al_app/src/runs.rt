@@ -1,11 +1,11 @@
 //! The runs of a spec file: what the driver gives to the engine, and in which order.
 ghost use Rattle.std.specs.Prelude.{◌≡◌, ℕ, ◌<◌, ◌≤◌, ◌+◌, ◌++◌, [], false, None, Some, length, slice_get, option_map, IfOk, OnOk};
-ghost use Rattle.std.specs.List.{AllByRecursion};
 ghost use Rattle.al_history.specs.declared.run.Setup.TheVariants as setups;
 ghost use Rattle.al_history.specs.Hand.{hand, closed};
 ghost use Rattle.al_history.specs.Whole.{IsLeast, is_setup, each_block};
 ghost use Rattle.al_engine.specs.Ran.{Ran, IsLegalRun, IsTurned};
-ghost use Rattle.al_app.specs.Sound.{IsStepAt};
+ghost use Rattle.al_spec.specs.Keeps.{Each};
+ghost use Rattle.al_spec.specs.Sound.{IsStepAt};
 ghost use Rattle.al_app.specs.Runs.{journal_weight, IsRunnable, HasTurned, IsDriven, IsAtRest, HasRunBlock, CancelsIfBusy, IsNoneBusy, HasRunWhole, SetupRan, SetupSoFar, SetupGoesOn, StepsRan, SessionsCancelled, is_of, AreOpenFor, tasks_from, TeardownsRan, SessionsClosed, IsEnded, HasRunOne};
 use al_engine::{Busy, Engine, Told};
 use al_history::{Block, Part, Run, Scripts, Setup, Spec};
@@ -178,7 +178,7 @@ fn run_setup(alloc: Global, engine: &mut Engine, spec: &Spec) -> Result<Setup, N
 /// Gives the steps of a permutation in order. A step for a busy session isn't given, and ends the list.
 fn run_steps(alloc: Global, engine: &mut Engine, spec: &Spec, steps: &[u32]) -> Result<(), NoMemory>
     requires runnable { IsRunnable spec.now engine.old.terms.scripts }
-    requires are_steps { AllByRecursion (IsStepAt spec.now.blocks) steps.now }
+    requires are_steps { Each (IsStepAt spec.now.blocks) steps.now }
     requires set_up { SetupRan spec.now engine.old setups.Done }
     ensures ran { OnOk result (StepsRan spec.now steps.now engine.new) }
     ensures terms { OnOk result (engine.new.terms ≡ engine.old.terms) }
@@ -281,15 +281,16 @@ fn finish_steps(
     alloc: Global,
     engine: &mut Engine,
     spec: &Spec,
+    end: u32,
     steps: &[u32],
 ) -> Result<(), NoMemory>
     requires runnable { IsRunnable spec.now engine.old.terms.scripts }
-    requires are_steps { AllByRecursion (IsStepAt spec.now.blocks) steps.now }
+    requires end { end ≡ length spec.now.sessions + 1 }
+    requires are_steps { Each (IsStepAt spec.now.blocks) steps.now }
     requires set_up { SetupRan spec.now engine.old setups.Done }
     ensures ran { OnOk result (IsEnded spec.now engine.new steps.now setups.Done) }
     ensures terms { OnOk result (engine.new.terms ≡ engine.old.terms) }
 {
-    let end = spec.sessions.len() as u32 + 1;
     run_steps(alloc, engine, spec, steps)?;
     cancel_busy(alloc, engine, end)?;
     run_teardowns(alloc, engine, spec, Teardowns::OfSessions)?;
@@ -304,21 +305,23 @@ fn finish(
     alloc: Global,
     engine: &mut Engine,
     spec: &Spec,
+    end: u32,
     setup: Setup,
     steps: &[u32],
 ) -> Result<(), NoMemory>
     requires runnable { IsRunnable spec.now engine.old.terms.scripts }
-    requires are_steps { AllByRecursion (IsStepAt spec.now.blocks) steps.now }
+    requires end { end ≡ length spec.now.sessions + 1 }
+    requires are_steps { Each (IsStepAt spec.now.blocks) steps.now }
     requires set_up { SetupRan spec.now engine.old setup }
     ensures ran { OnOk result (IsEnded spec.now engine.new steps.now setup) }
     ensures terms { OnOk result (engine.new.terms ≡ engine.old.terms) }
 {
     match setup {
         Setup::Failed { .. } => {
-            close_sessions(engine, 0, spec.sessions.len() as u32 + 1);
+            close_sessions(engine, 0, end);
             Ok(())
         }
-        Setup::Done => finish_steps(alloc, engine, spec, steps),
+        Setup::Done => finish_steps(alloc, engine, spec, end, steps),
     }
 }
 
@@ -331,12 +334,13 @@ pub fn run_permutation(
     steps: &[u32],
 ) -> Result<(Run, Scripts), NoMemory>
     requires runnable { IsRunnable spec.now scripts }
-    requires are_steps { AllByRecursion (IsStepAt spec.now.blocks) steps.now }
+    requires are_steps { Each (IsStepAt spec.now.blocks) steps.now }
     ensures { IfOk result (λ ran. HasRunOne spec.now scripts number steps.now ran.0 ran.1) }
 {
+    let end = scripts.sessions;
     let mut engine = Engine::open(alloc, scripts, journal_weight(spec))?;
     let setup = run_setup(alloc, &mut engine, spec)?;
-    finish(alloc, &mut engine, spec, setup, steps)?;
+    finish(alloc, &mut engine, spec, end, setup, steps)?;
     let (history, scripts) = engine.finish();
     let run = Run {
         permutation: number,

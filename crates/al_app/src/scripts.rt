@@ -1,10 +1,9 @@
 //! The blocks of a spec file as scripts.
-ghost use Rattle.std.specs.Prelude.{◌≡◌, IfOk, length, ◌+◌};
+ghost use Rattle.std.specs.Prelude.{IfOk};
 ghost use Rattle.al_app.specs.Scripts.{IsReadAs, IsScriptOf, EachWith, AreScripts};
-ghost use Rattle.al_app.specs.Sound.{IsSound};
-use crate::blocks::read_block;
+use al_blocks::read_block;
 use al_history::{Block, Script, ScriptBlock, ScriptList, Scripts, Spec, SqlFault};
-use al_values::{Cant, ListOf, NoMemory, Txt};
+use al_values::{Cant, ListOf, NoMemory, Txt, count_of};
 use std::alloc::Global;
 
 /// What a text is read as: its statements, or why it has none.
@@ -40,11 +39,10 @@ fn all_scripts(alloc: Global, blocks: &[Block]) -> Result<ScriptList, NoMemory>
 
 /// Reads each block of a spec file once.
 pub fn read_scripts(alloc: Global, spec: &Spec) -> Result<Scripts, NoMemory>
-    requires { IsSound spec.now }
     ensures { IfOk result (λ scripts. AreScripts spec.now scripts) }
 {
     Ok(Scripts {
-        sessions: spec.sessions.len() as u32 + 1,
+        sessions: count_of(spec.sessions.len() + 1)?,
         blocks: all_scripts(alloc, spec.blocks.as_slice())?,
     })
 }

@@ -6,6 +6,7 @@ ghost use Rattle.al_history.specs.Whole.{AreRuns};
 ghost use Rattle.al_outside.specs.Faults.{Rose};
 ghost use Rattle.al_outside.specs.Reading.{IsReadUpTo};
 ghost use Rattle.al_spec.specs.Files.{IsFault};
+ghost use Rattle.al_spec.specs.Sound.{IsSound};
 ghost use Rattle.al_app.specs.Answers.{most_bytes, IsRunnableFile, HasRun, failed_first};
 ghost use Rattle.al_app.specs.Runs.{terms_for, IsRunnable};
 ghost use Rattle.al_app.specs.Top.{StopsFor, IsFaultOf};
@@ -57,6 +58,7 @@ fn run_all(alloc: Global, spec: &Spec, scripts: Scripts) -> Result<RunList, NoMe
 fn read_runnable(alloc: Global, bytes: &[u8]) -> Result<Spec, Cant<SpecFault>>
     requires { length bytes.now ≤ most_bytes }
     ensures ok { IfOk result (λ spec. IsRunnableFile bytes.now spec) }
+    ensures sound { IfOk result (λ spec. IsSound spec) }
     ensures no_fault { OnOk result ((fault : SpecFault) → IsFault bytes.now fault → ⊥) }
     ensures fault { IfErr result (IsFaultOf bytes.now) }
 {
