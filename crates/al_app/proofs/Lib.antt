@@ -7,3 +7,6 @@ pub mod CloseLemmas
 pub mod ReportLemmas
 pub mod TopLemmas
 pub mod AnswerLemmas
+mod ReportVectors
+mod RunVectors
+mod AnswerVectors

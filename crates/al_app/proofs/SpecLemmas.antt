@@ -21,7 +21,7 @@ all_at P (i ∷ items) (suc at) item all is = all_at P items at item all.1 is
 
 -- ---- sessions
 
-known_of : (part : Part) (sessions s : ℕ) → PartFits part sessions s → s ≤ sessions
+known_of : (part : Part) (sessions s : ℕ) → PartFits sessions part s → s ≤ sessions
 known_of parts.Setup sessions s is = omega (arith, is)
 known_of parts.Teardown sessions s is = omega (arith, is)
 known_of parts.SessionSetup sessions s is = is.1
@@ -31,7 +31,7 @@ known_of parts.SessionTeardown sessions s is = is.1
 pub block_known : (spec : Spec) (number : ℕ) (block : Block) → IsSound spec → slice_get spec.blocks number ≡ Some block → block.session ≤ length spec.sessions
 block_known spec number block sound there = known_of block.part (length spec.sessions) block.session (all_at (BlockFits (length spec.sessions)) spec.blocks number block sound.blocks there)
 
-control_of : (part : Part) (sessions s : ℕ) → PartFits part sessions s → is_teardown part ≡ true → s ≡ 0
+control_of : (part : Part) (sessions s : ℕ) → PartFits sessions part s → is_teardown part ≡ true → s ≡ 0
 control_of parts.Setup sessions s is test = is
 control_of parts.Teardown sessions s is test = is
 control_of parts.SessionSetup sessions s is test = absurd cc

@@ -1,10 +1,11 @@
 -- From what was read to what is answered.
-use Rattle.std.proofs.Common.{◌≡◌, ℕ, zero, suc, ◌+◌, ◌<◌, ◌≤◌, List, [], ◌∷◌, ◌++◌, length, drop, get_or, refl, sym, ap, subst, Option, Some, None, Result, Ok, Err, IfSome, arith, ◌∙◌, inl, inr}
+use Rattle.std.proofs.Common.{◌≡◌, ℕ, zero, suc, ◌+◌, ◌<◌, ◌≤◌, List, [], ◌∷◌, ◌++◌, length, take, drop, get_or, slice_get, refl, sym, ap, subst, Option, Some, None, Result, Ok, Err, IfSome, arith, ◌∙◌, inl, inr}
 use Rattle.al_values.specs.declared.cant.Cant.{Cant}
 use Rattle.al_values.specs.declared.cant.Cant.TheVariants as cants
 use Rattle.al_values.specs.Gives.{GivesUnlessNoMemory}
 use Rattle.al_history.specs.declared.run.Run.{Run}
 use Rattle.al_history.specs.declared.run.Setup.TheVariants as setups
+use Rattle.al_history.specs.declared.statement.Scripts.{Scripts}
 use Rattle.al_history.specs.declared.statement.Terms.{Terms}
 use Rattle.al_history.specs.Whole.{IsRun, AreRunsFrom}
 use Rattle.al_spec.specs.declared.spec.Spec.{Spec}
@@ -12,7 +13,9 @@ use Rattle.al_spec.specs.declared.spec.SpecFault.{SpecFault}
 use Rattle.al_spec.specs.declared.spec.SpecFault.TheVariants as faults
 use Rattle.al_spec.specs.Files.{IsSpecFile, IsFault, IfWhy}
 use Rattle.al_app.specs.Answers.{most_bytes, failed_first, IsRunnableFile, IsFaulty, HasRun, AreLegal}
+use Rattle.al_app.specs.Runs.{terms_for, HasRunOne}
 use Rattle.al_app.specs.Top.{IsFaultOf}
+use Rattle.al_app.proofs.SpecLemmas.{take_with}
 
 -- one run more
 pub runs_more : (spec : Spec) (terms : Terms) (number : ℕ) (permutations : List (List ℕ)) (runs : List Run) (steps : List ℕ) (run : Run) → AreRunsFrom spec terms number permutations runs → IsRun spec terms (number + length permutations) steps run → AreRunsFrom spec terms number (permutations ++ steps ∷ []) (runs ++ run ∷ [])
@@ -22,6 +25,16 @@ runs_more spec terms number (p ∷ permutations) [] steps run all is = absurd al
 runs_more spec terms number (p ∷ permutations) (r ∷ runs) steps run all is =
     let n : number + suc (length permutations) ≡ number + 1 + length permutations = omega arith in
     (all.0, runs_more spec terms (number + 1) permutations runs steps run all.1 (rw n at is))
+
+take_length : {T : Type 0} (items : List T) (at : ℕ) (item : T) → slice_get items at ≡ Some item → length (take at items) ≡ at
+take_length [] at item is = absurd cc
+take_length (i ∷ items) zero item is = refl
+take_length (i ∷ items) (suc at) item is = ap (λ (n : ℕ). suc n) (take_length items at item is)
+
+pub runs_go_on : (spec : Spec) (scripts now back : Scripts) (place number : ℕ) (steps : List ℕ) (run : Run) (runs more : List Run) → now ≡ scripts → slice_get spec.permutations place ≡ Some steps → number ≡ place + 1 → more ≡ runs ++ run ∷ [] → AreRunsFrom spec (terms_for spec scripts) 1 (take place spec.permutations) runs → HasRunOne spec now number steps run back → AreRunsFrom spec (terms_for spec scripts) 1 (take (place + 1) spec.permutations) more
+runs_go_on spec scripts now back place number steps run runs more same there count grown so_far one =
+    let n : number ≡ 1 + length (take place spec.permutations) = omega (arith, count, take_length spec.permutations place steps there) in
+    rw (grown, take_with spec.permutations place steps there) (runs_more spec (terms_for spec scripts) 1 (take place spec.permutations) runs steps run so_far (rw n at (rw same at one.is_run)))
 
 -- the run at a place, where none before it has failed
 pub failed_at : (runs : List Run) (at : ℕ) (run : Run) (block : ℕ) → at < length runs → run ≡ get_or runs at run → run.setup ≡ setups.Failed block → failed_first runs ≡ failed_first (drop at runs) → Some run.permutation ≡ failed_first runs

@@ -41,8 +41,11 @@ fn all_scripts(alloc: Global, blocks: &[Block]) -> Result<ScriptList, NoMemory>
 pub fn read_scripts(alloc: Global, spec: &Spec) -> Result<Scripts, NoMemory>
     ensures { IfOk result (λ scripts. AreScripts spec.now scripts) }
 {
+    let Some(sessions) = count_of(spec.sessions.len())?.checked_add(1) else {
+        return Err(NoMemory);
+    };
     Ok(Scripts {
-        sessions: count_of(spec.sessions.len() + 1)?,
+        sessions,
         blocks: all_scripts(alloc, spec.blocks.as_slice())?,
     })
 }
