@@ -149,10 +149,10 @@ module _ (spec : Spec) (which : Teardowns) (old : Ran) (number : ℕ) (block : B
         closed_same = did.closed_same;
         failed = did.fails spec ∙ ap (λ (o : Option ℕ). failed_by (failed_setup spec old.past) o failed) none ∙ failed_none (failed_setup spec old.past) failed;
         goes_on = λ steps tasks has.
-          let rest_left = tasks_from spec (is_of which) (number + 1) ++ tasks in
-          let here = subst (λ (ts : List Task). HasLeft spec steps old.past (ts ++ tasks)) (tasks_here spec (is_of which) number block there part) has in
-          let after = did.goes_on spec steps rest_left (session_of_block spec number block there) here in
-          subst (HasLeft spec steps new.past) (ap (λ (o : Option ℕ). left_when spec o failed rest_left) none ∙ left_none spec failed rest_left) after;
+            let rest_left = tasks_from spec (is_of which) (number + 1) ++ tasks in
+            let here = subst (λ (ts : List Task). HasLeft spec steps old.past (ts ++ tasks)) (tasks_here spec (is_of which) number block there part) has in
+            let after = did.goes_on spec steps rest_left (session_of_block spec number block there) here in
+            subst (HasLeft spec steps new.past) (ap (λ (o : Option ℕ). left_when spec o failed rest_left) none ∙ left_none spec failed rest_left) after;
       }
 
 -- ---- closes
@@ -259,10 +259,10 @@ module _ (spec : Spec) (steps : List ℕ) (a b : Ran) (end : ℕ) (n : end ≡ l
       ends_done f last = record {
         rest = last.rest;
         has_left =
-          let in_teardowns = down.goes_on steps (after_teardowns spec) left_after_cancels in
-          let in_closes = closed_most.goes_on spec steps (after_closes spec) (length spec.sessions) (omega arith) in_teardowns in
-          let in_main = main_down.goes_on steps (CloseSession 0 ∷ []) in_closes in
-          last.goes_on spec steps [] 1 refl in_main;
+            let in_teardowns = down.goes_on steps (after_teardowns spec) left_after_cancels in
+            let in_closes = closed_most.goes_on spec steps (after_closes spec) (length spec.sessions) (omega arith) in_teardowns in
+            let in_main = main_down.goes_on steps (CloseSession 0 ∷ []) in_closes in
+            last.goes_on spec steps [] 1 refl in_main;
         all_closed = λ s le. closed_at s le;
         failed = last.failed spec ∙ main_down.failed ∙ closed_most.failed spec ∙ down.failed ∙ cancelled.failed spec steps_ran.plain ∙ steps_ran.failed;
       } where

@@ -147,12 +147,12 @@ was_cancelled old mid new session refused rest legal did driven =
       hands = λ s. none_later old.past mid.past new.past s (hands_mid s) (driven.went.hands s);
       failed = λ spec part all. driven.went.refuses.failed spec part (of_setup_later spec part old.past mid.past hands_mid all) ∙ failed_cancelled (failed_setup spec old.past) (failed_setup spec mid.past) part refused (failed_in old mid session true did.goes_on spec part all);
       goes_on = λ spec steps part tasks all has.
-        let moves = cancels_busy spec old.past session tasks did.goes_on.in_step in
-        let rest_left = then_left spec steps old.past (CancelIfBusy session ∷ tasks) has (record { entry = Cancel session; then_left = tasks }) moves in
-        let before = refuses_of old mid session true (λ spec steps. left_by (next_move spec old.past (left spec steps old.past))) did.goes_on did.left_is spec steps part all ∙ ap (left_when spec part true) rest_left in
-        let after = driven.went.refuses.left_is spec steps part (of_setup_later spec part old.past mid.past hands_mid all) ∙ left_twice spec tasks (left spec steps mid.past) part true refused before in
-        record {
-          as_due = quietly.as_due spec steps (due_is spec steps old.past (CancelIfBusy session ∷ tasks) has (record { entry = Cancel session; then_left = tasks }) moves, has.as_due);
-          comes_to = ap (next_move spec new.past) after;
-        };
+          let moves = cancels_busy spec old.past session tasks did.goes_on.in_step in
+          let rest_left = then_left spec steps old.past (CancelIfBusy session ∷ tasks) has (record { entry = Cancel session; then_left = tasks }) moves in
+          let before = refuses_of old mid session true (λ spec steps. left_by (next_move spec old.past (left spec steps old.past))) did.goes_on did.left_is spec steps part all ∙ ap (left_when spec part true) rest_left in
+          let after = driven.went.refuses.left_is spec steps part (of_setup_later spec part old.past mid.past hands_mid all) ∙ left_twice spec tasks (left spec steps mid.past) part true refused before in
+          record {
+            as_due = quietly.as_due spec steps (due_is spec steps old.past (CancelIfBusy session ∷ tasks) has (record { entry = Cancel session; then_left = tasks }) moves, has.as_due);
+            comes_to = ap (next_move spec new.past) after;
+          };
     }

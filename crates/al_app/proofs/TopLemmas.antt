@@ -75,9 +75,9 @@ without_permutation bytes spec within is none only only_fault = record {
   why = inr (record { is = refl; spec = spec; is_spec = is; none = none });
   only = λ other fault. absurd (read_no_fault bytes spec only_fault other fault);
   never_run = λ other file.
-    let same : other ≡ spec = same_spec other (only other file.is_spec) in
-    let nothing : other.permutations ≡ [] = rw same none in
-    some_none other.permutations nothing file.some_permutation;
+      let same : other ≡ spec = same_spec other (only other file.is_spec) in
+      let nothing : other.permutations ≡ [] = rw same none in
+      some_none other.permutations nothing file.some_permutation;
 } where
   same_spec : (other : Spec) → ◌≡◌ {A = Result Spec SpecFault} (Ok other) (Ok spec) → other ≡ spec
   same_spec other e = cc

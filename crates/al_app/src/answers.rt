@@ -151,7 +151,11 @@ fn line_of(alloc: Global, fault: SpecFault) -> Result<String, NoMemory>
         SpecFault::TwoSteps { at } => write!(line, "spec fault at byte {at}: two steps\n")?,
         SpecFault::NoStep { at } => write!(line, "spec fault at byte {at}: no step\n")?,
         SpecFault::Limit { at, what } => {
-            write!(line, "spec fault at byte {at}: limit of {}\n", limit_word(what))?;
+            write!(
+                line,
+                "spec fault at byte {at}: limit of {}\n",
+                limit_word(what)
+            )?;
         }
         SpecFault::NoPermutation => line.push_str("spec fault: no permutation\n")?,
     }

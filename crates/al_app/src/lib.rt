@@ -1,5 +1,6 @@
 //! The top calls of `alterlive`: a spec file is read, its permutations are run, and the report is written.
 #![tactic(auto)]
+
 mod answers;
 mod report;
 mod runs;
@@ -7,6 +8,7 @@ mod scripts;
 mod status;
 mod top;
 mod words;
+
 pub use answers::{answer, answer_alone};
 pub use report::print;
 pub use status::{Answer, Status};

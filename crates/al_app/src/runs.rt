@@ -7,6 +7,7 @@ ghost use Rattle.al_engine.specs.Ran.{Ran, IsLegalRun, IsTurned};
 ghost use Rattle.al_spec.specs.Keeps.{Each};
 ghost use Rattle.al_spec.specs.Sound.{IsStepAt};
 ghost use Rattle.al_app.specs.Runs.{journal_weight, IsRunnable, HasTurned, IsDriven, IsAtRest, HasRunBlock, CancelsIfBusy, IsNoneBusy, HasRunWhole, SetupRan, SetupSoFar, SetupGoesOn, StepsRan, SessionsCancelled, is_of, AreOpenFor, tasks_from, TeardownsRan, SessionsClosed, IsEnded, HasRunOne};
+
 use al_engine::{Busy, Engine, Told};
 use al_history::{Block, Part, Run, Scripts, Setup, Spec};
 use al_values::{Cant, NoMemory, Steps, count_of};

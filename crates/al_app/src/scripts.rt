@@ -1,6 +1,7 @@
 //! The blocks of a spec file as scripts.
 ghost use Rattle.std.specs.Prelude.{IfOk};
 ghost use Rattle.al_app.specs.Scripts.{IsReadAs, IsScriptOf, EachWith, AreScripts};
+
 use al_blocks::read_block;
 use al_history::{Block, Script, ScriptBlock, ScriptList, Scripts, Spec, SqlFault};
 use al_values::{Cant, ListOf, NoMemory, Txt, count_of};

@@ -10,6 +10,7 @@ ghost use Rattle.al_spec.specs.Sound.{IsSound};
 ghost use Rattle.al_app.specs.Answers.{most_bytes, IsRunnableFile, HasRun, failed_first};
 ghost use Rattle.al_app.specs.Runs.{terms_for, IsRunnable};
 ghost use Rattle.al_app.specs.Top.{StopsFor, IsFaultOf};
+
 use crate::report::print;
 use crate::runs::run_permutation;
 use crate::scripts::read_scripts;

@@ -2,6 +2,7 @@
 ghost use Rattle.std.specs.Prelude.{OnErr};
 ghost use Rattle.al_outside.specs.Faults.{Rose};
 ghost use Rattle.al_app.specs.Words.{IsUnknown, IsExit};
+
 use crate::answers::{answer, refuse_words};
 use crate::status::Status;
 use al_outside::{Gate, Sink, Source};
@@ -22,6 +23,7 @@ pub enum Words {
     /// No memory was to be had for them.
     NoMemory,
 }
+
 fn known(alloc: Global, args: Args) -> Result<ListOf<Word>, NoMemory> {
     let mut words = ListOf::new(alloc);
     for word in args.skip(1) {
@@ -58,7 +60,9 @@ pub fn exit_number<R: Threads + Wait + Sync, S: Source, K: Sink, G: Gate + Sync>
     ensures exit { IsExit words.now (S.left source.old) (S.left source.new) (Rose (S.faults source.old) (S.faults source.new)) (Rose (K.faults sink.old) (K.faults sink.new)) (K.held sink.old) (K.held sink.new) result }
 {
     match words {
-        Words::Known(words) => answer(rt, alloc, words.as_slice(), source, sink, gate).status.number(),
+        Words::Known(words) => answer(rt, alloc, words.as_slice(), source, sink, gate)
+            .status
+            .number(),
         Words::NotText => refuse_words(sink).number(),
         Words::NoMemory => Status::NoMemory.number(),
     }

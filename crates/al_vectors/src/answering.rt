@@ -439,7 +439,14 @@ fn reads_so_many_bytes(rt: HostRuntime) -> Result<(), Fail> {
     let alloc = rt.alloc();
     let fault = Status::SpecFault(SpecFault::Syntax { at: 4_194_304 });
     let line = "spec fault at byte 4194304: syntax\n";
-    answer_to(&rt, alloc, &["run"], &blanks(alloc, 4_194_304)?, fault, line)?;
+    answer_to(
+        &rt,
+        alloc,
+        &["run"],
+        &blanks(alloc, 4_194_304)?,
+        fault,
+        line,
+    )?;
     let long = blanks(alloc, 4_194_305)?;
     let answer = answer_to(&rt, alloc, &["run"], &long, Status::TooLong, TOO_LONG)?;
     assert_eq!(rt; answer.runs.len(), 0);

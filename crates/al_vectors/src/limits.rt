@@ -65,11 +65,20 @@ fn with_block(alloc: Global, bytes: usize) -> Result<String, NoMemory> {
 #[test]
 fn blocks(rt: HostRuntime) -> Result<(), Fail> {
     let alloc = rt.alloc();
-    assert_eq!(rt; status_of(alloc, &with_block(alloc, 65_536)?)?, Status::Done);
+    assert_eq!(rt;
+        status_of(alloc, &with_block(alloc, 65_536)?)?,
+        Status::Done
+    );
     let (answer, sink) = answer_to(alloc, &with_block(alloc, 65_537)?)?;
     let what = SpecLimit::Block;
-    assert_eq!(rt; answer.status, Status::SpecFault(SpecFault::Limit { at: 17, what }));
-    assert_eq!(rt; sink.held(), b"spec fault at byte 17: limit of block\n");
+    assert_eq!(rt;
+        answer.status,
+        Status::SpecFault(SpecFault::Limit { at: 17, what })
+    );
+    assert_eq!(rt;
+        sink.held(),
+        b"spec fault at byte 17: limit of block\n".as_slice()
+    );
     Ok(())
 }
 

@@ -463,17 +463,17 @@ a
 (1 row)
 ",
     ),
-    // Session setups go in the file's order.
+    // Session setups go in the file's order. A BEGIN in one keeps the transaction of its INSERT open.
     (
         2,
         "session s1 setup { INSERT INTO t VALUES (2) }
 step x { SELECT * FROM t }
 session s2 setup { INSERT INTO t VALUES (3); BEGIN }
 step y { COMMIT }
-permutation x y
+permutation x y x
 ",
         "
-starting permutation: x y
+starting permutation: x y x
 setup 1
 CREATE TABLE
 INSERT 0 1
@@ -486,10 +486,15 @@ step x: SELECT * FROM t
 a
 1
 2
-3
-(3 rows)
+(2 rows)
 step y: COMMIT
 COMMIT
+step x: SELECT * FROM t
+a
+1
+2
+3
+(3 rows)
 ",
     ),
     // Session teardowns go in the file's order, and then the main one.

@@ -9,7 +9,6 @@ run_whole-requires-clause-known c = session_known _ _ _ _ c.requires.runnable c.
 pub run_whole-requires-clause-of_session : goal.run_whole-requires-clause-of_session
 run_whole-requires-clause-of_session c = of_session_at _ _ _ _ c.requires.runnable c.requires.there
 
-
 pub returns-clause-ran : goal.returns-clause-ran
 returns-clause-ran c = setup_goes_on _ c.args.engine.now _ _ c.requires.there c.requires.so_far (search rules) c.run_whole.new.engine _ c.in_ok-failed.ensures
 
