@@ -1,31 +1,50 @@
--- The end of a run: the cancels of busy sessions, and the closes.
-use Rattle.std.proofs.Common.{◌≡◌, ℕ, zero, suc, ◌+◌, ◌<◌, ◌≤◌, List, [], ◌∷◌, ◌++◌, length, refl, sym, ap, subst, cond, true, false, Bool, Option, Some, None, arith, ◌∙◌, inl, inr, append_assoc}
+-- The end of a run: the cancels of busy sessions, the teardown blocks, and the closes.
+use Rattle.std.proofs.Common.{◌≡◌, ℕ, zero, suc, ◌+◌, ◌<◌, ◌≤◌, List, [], ◌∷◌, ◌++◌, length, refl, sym, ap, subst, cond, true, false, Bool, Option, Some, None, arith, ◌∙◌, inl, inr, map, slice_get, option_map}
 use Rattle.std.specs.Prelude.{◌==◌, ◌≢◌, ◌⊎◌, eqb, leb}
-use Rattle.std.specs.List.{AllByRecursion}
 use Rattle.std.proofs.lemmas.Bool.{ne_eqb}
-use Rattle.std.proofs.lemmas.Bool.Decides.{eqb_tells, leb_tells}
 use Rattle.std.proofs.lemmas.List.{append-nil}
+use Rattle.std.proofs.lemmas.Bool.Decides.{eqb_tells, leb_tells}
 use Rattle.al_history.specs.declared.entry.Entry.TheVariants.{Close}
 use Rattle.al_history.specs.declared.run.Setup.{Setup}
 use Rattle.al_history.specs.declared.run.Setup.TheVariants as setups
+use Rattle.al_spec.specs.declared.spec.Block.{Block}
+use Rattle.al_spec.specs.declared.spec.Part.{Part}
+use Rattle.al_spec.specs.declared.spec.Part.TheVariants as parts
 use Rattle.al_spec.specs.declared.spec.Spec.{Spec}
+use Rattle.al_history.specs.declared.statement.Scripts.{Scripts}
 use Rattle.al_history.specs.declared.statement.Terms.{Terms}
 use Rattle.al_history.specs.Kept.{Kept}
 use Rattle.al_history.specs.Past.{Past, past_of}
 use Rattle.al_history.specs.Hand.{hand, closed}
-use Rattle.al_history.specs.Whole.{failed_setup, gives, ended, next_block, due, closing_order, sessions_from, setup_by, IsRun}
-use Rattle.al_history.proofs.Pasts.{if_same}
+use Rattle.al_history.specs.Whole.{is_setup, is_teardown, sessions_from, of_setup, failed_setup, setup_by, Task, CancelIfBusy, CloseSession, give_and_cancel, each_block, each_session, Move, next_move, left, due, IsIdle, IsRun}
 use Rattle.al_history.proofs.Views.{hold_always}
 use Rattle.al_engine.specs.Ran.{Ran, IsLegalRun, IsClosed}
-use Rattle.al_app.specs.Runs.{IsAtRest, CancelsIfBusy, IsNoneBusy, SetupFailed, StepsRan, CancelledSoFar, SessionsCancelled, HasStopped, IsClosing, SessionsClosed, failed_block, IsEnded}
-use Rattle.al_app.proofs.QuietLemmas.{quietly_aborted}
-use Rattle.al_app.proofs.DueLemmas.{due_cancels, due_closes, due_none, no_more_after_end, stopped_idle}
-use Rattle.al_app.proofs.DriveLemmas.{of_setup_later, stays_none}
+use Rattle.al_app.specs.declared.runs.Teardowns.{Teardowns}
+use Rattle.al_app.specs.declared.runs.Teardowns.TheVariants as teardowns
+use Rattle.al_spec.specs.Sound.{IsSound}
+use Rattle.al_app.specs.Runs.{terms_for, HasLeft, left_when, tasks_from, after_closes, after_teardowns, after_cancels, after_steps, IsAtRest, AreOfSetup, failed_by, CancelsIfBusy, WasCancelled, IsNoneBusy, IsAnyOpen, HasRunWhole, SetupFailed, StepsRan, SessionsCancelled, is_of, AreOpenFor, TeardownsRan, SessionsClosed, failed_block, IsEnded, HasRunOne}
+use Rattle.al_app.proofs.QuietLemmas.{quietly_aborted, left_aborted}
+use Rattle.al_app.proofs.LeftLemmas.{moves_same, then_left, left_none, tasks_here, tasks_skip, tasks_end}
+use Rattle.al_app.proofs.SpecLemmas.{session_of_block, teardown_session, of_setup_not}
+use Rattle.al_app.proofs.DriveLemmas.{none_later, stays_none, of_setup_later}
+
+-- a task for each session, with one more session at the end
+each_more : (task : ℕ → Task) (first count : ℕ) (tasks : List Task) → each_session task (sessions_from first (suc count)) ++ tasks ≡ each_session task (sessions_from first count) ++ task (first + count) ∷ tasks
+each_more task first zero tasks = let n : first + 0 ≡ first = omega arith in rw n refl
+each_more task first (suc count) tasks = let n : first + 1 + count ≡ first + suc count = omega arith in ap (λ (ts : List Task). task first ∷ ts) (each_more task (first + 1) count tasks ∙ ap (λ (m : ℕ). each_session task (sessions_from (first + 1) count) ++ task m ∷ tasks) n)
 
 -- ---- cancels
 
-cancel_begins : (spec : Spec) (steps : List ℕ) (ran : Ran) → StepsRan spec steps ran → CancelledSoFar spec steps ran 0
-cancel_begins spec steps ran done = record { ran_steps = done; none_below = λ s lt. absurd (omega arith) }
+pub cancels_begin : (ran : Ran) → IsAtRest ran → SessionsCancelled ran ran 0
+cancels_begin ran rest = record {
+  rest = rest;
+  terms = refl;
+  closed_same = λ s. refl;
+  none_below = λ s lt. absurd (omega arith);
+  hands = λ s. inr refl;
+  failed = λ spec all. refl;
+  goes_on = λ spec steps tasks all has. has;
+}
 
 below_one_more : (past : Past) (count : ℕ) → ((s : ℕ) → s < count → hand past s ≡ None) → hand past count ≡ None → (s : ℕ) → s < count + 1 → hand past s ≡ None
 below_one_more past count below own s lt = by_session (eqb_tells count s) where
@@ -33,106 +52,153 @@ below_one_more past count below own s lt = by_session (eqb_tells count s) where
   by_session (inl e) = subst (λ (r : ℕ). hand past r ≡ None) e.1 own
   by_session (inr e) = let apart : count ≢ s = e.1 in below s (omega arith)
 
-cancel_goes_on : (spec : Spec) (steps : List ℕ) (old new : Ran) (count : ℕ) (cancelled : Bool) → count ≤ length spec.sessions → CancelledSoFar spec steps old count → CancelsIfBusy old new count cancelled → CancelledSoFar spec steps new (count + 1)
-cancel_goes_on spec steps old new count false known so_far left = subst (λ (ran : Ran). CancelledSoFar spec steps ran (count + 1)) (sym left.same) (record { ran_steps = so_far.ran_steps; none_below = below_one_more old.past count so_far.none_below left.none })
-cancel_goes_on spec steps old new count true known so_far cancel =
-    let before = so_far.ran_steps.now in
-    record {
-      ran_steps = record {
-        now = record {
-          rest = cancel.rest;
-          as_due = cancel.as_due spec steps (due_cancels spec steps old.past count before.failed (inr so_far.ran_steps.no_more) known so_far.none_below cancel.in_step) before.as_due;
-          any_open = λ s. cancel.closed_same s ∙ before.any_open s;
-          failed = cancel.failed spec None before.plain ∙ rw before.failed refl;
-          plain = of_setup_later spec None old.past new.past cancel.hands before.plain;
-          none_beyond = λ s lt. stays_none (hand old.past s) (hand new.past s) (cancel.hands s) (before.none_beyond s lt);
-        };
-        no_more = no_more_after_end spec steps new.past cancel.ended;
-      };
-      none_below = below_one_more new.past count (λ s lt. stays_none (hand old.past s) (hand new.past s) (cancel.hands s) (so_far.none_below s lt)) cancel.own;
-    }
+failed_none : (failed : Option ℕ) (refused : Bool) → failed_by failed None refused ≡ failed
+failed_none None true = refl
+failed_none (Some block) true = refl
+failed_none None false = refl
+failed_none (Some block) false = refl
 
-pub cancels_begin : (ran : Ran) → IsAtRest ran → SessionsCancelled ran ran 0
-cancels_begin ran rest = record { rest = rest; terms = refl; goes_on = λ spec steps known done. cancel_begins spec steps ran done }
+module _ (old mid : Ran) (count : ℕ) (so_far : SessionsCancelled old mid count) where
+  left_before : (spec : Spec) (steps : List ℕ) (tasks : List Task) → AreOfSetup spec None old.past → HasLeft spec steps old.past (each_session CancelIfBusy (sessions_from 0 (count + 1)) ++ tasks) → HasLeft spec steps mid.past (CancelIfBusy count ∷ tasks)
+  left_before spec steps tasks all has =
+      let n : count + 1 ≡ suc count = omega arith in
+      let m : 0 + count ≡ count = omega arith in
+      let list : each_session CancelIfBusy (sessions_from 0 (count + 1)) ++ tasks ≡ each_session CancelIfBusy (sessions_from 0 count) ++ CancelIfBusy count ∷ tasks = ap (λ (k : ℕ). each_session CancelIfBusy (sessions_from 0 k) ++ tasks) n ∙ each_more CancelIfBusy 0 count tasks ∙ ap (λ (k : ℕ). each_session CancelIfBusy (sessions_from 0 count) ++ CancelIfBusy k ∷ tasks) m in
+      so_far.goes_on spec steps (CancelIfBusy count ∷ tasks) all (subst (HasLeft spec steps old.past) list has)
 
-pub cancels_go_on : (old mid new : Ran) (count : ℕ) (cancelled : Bool) → SessionsCancelled old mid count → CancelsIfBusy mid new count cancelled → SessionsCancelled old new (count + 1)
-cancels_go_on old mid new count cancelled so_far did = record {
-  rest = rest cancelled did;
-  terms = terms cancelled did ∙ so_far.terms;
-  goes_on = λ spec steps known done. cancel_goes_on spec steps mid new count cancelled (omega arith) (so_far.goes_on spec steps (omega arith) done) did;
-} where
-  rest : (cancelled : Bool) → CancelsIfBusy mid new count cancelled → IsAtRest new
-  rest true did = did.rest
-  rest false did = subst IsAtRest (sym did.same) so_far.rest
+  cancels_one : (new : Ran) → WasCancelled mid new count → SessionsCancelled old new (count + 1)
+  cancels_one new did = record {
+    rest = did.rest;
+    terms = did.terms ∙ so_far.terms;
+    closed_same = λ s. did.closed_same s ∙ so_far.closed_same s;
+    none_below = below_one_more new.past count (λ s lt. stays_none (hand mid.past s) (hand new.past s) (did.hands s) (so_far.none_below s lt)) did.own;
+    hands = λ s. none_later old.past mid.past new.past s (so_far.hands s) (did.hands s);
+    failed = λ spec all. did.failed spec None (of_setup_later spec None old.past mid.past so_far.hands all) ∙ failed_none (failed_setup spec mid.past) true ∙ so_far.failed spec all;
+    goes_on = λ spec steps tasks all has. did.goes_on spec steps None tasks (of_setup_later spec None old.past mid.past so_far.hands all) (left_before spec steps tasks all has);
+  }
 
-  terms : (cancelled : Bool) → CancelsIfBusy mid new count cancelled → new.terms ≡ mid.terms
-  terms true did = did.terms
-  terms false did = ap (λ (ran : Ran). ran.terms) did.same
+  cancels_skip : hand mid.past count ≡ None → SessionsCancelled old mid (count + 1)
+  cancels_skip none = record {
+    rest = so_far.rest;
+    terms = so_far.terms;
+    closed_same = so_far.closed_same;
+    none_below = below_one_more mid.past count so_far.none_below none;
+    hands = so_far.hands;
+    failed = so_far.failed;
+    goes_on = λ spec steps tasks all has. let before = left_before spec steps tasks all has in record { as_due = before.as_due; comes_to = before.comes_to ∙ rw none refl };
+  }
+
+  pub cancels_go_on : (new : Ran) (cancelled : Bool) → CancelsIfBusy mid new count cancelled → SessionsCancelled old new (count + 1)
+  cancels_go_on new true did = cancels_one new did
+  cancels_go_on new false did = subst (λ (ran : Ran). SessionsCancelled old ran (count + 1)) (sym did.same) (cancels_skip did.none)
+
+-- ---- teardown blocks
+
+pub teardowns_begin : (spec : Spec) (which : Teardowns) (ran : Ran) → IsAtRest ran → IsNoneBusy ran.past → TeardownsRan spec ran ran (each_block spec (is_of which)) (tasks_from spec (is_of which) 0)
+teardowns_begin spec which ran rest none = record {
+  rest = rest;
+  terms = refl;
+  none_busy = none;
+  closed_same = λ s. refl;
+  failed = refl;
+  goes_on = λ steps tasks has. has;
+}
+
+pub teardowns_then : (spec : Spec) (old mid new : Ran) (a b c : List Task) → TeardownsRan spec old mid a b → TeardownsRan spec mid new b c → TeardownsRan spec old new a c
+teardowns_then spec old mid new a b c first then = record {
+  rest = then.rest;
+  terms = then.terms ∙ first.terms;
+  none_busy = then.none_busy;
+  closed_same = λ s. then.closed_same s ∙ first.closed_same s;
+  failed = then.failed ∙ first.failed;
+  goes_on = λ steps tasks has. then.goes_on steps tasks (first.goes_on steps tasks has);
+}
+
+pub teardowns_end : (spec : Spec) (which : Teardowns) (old new : Ran) (number : ℕ) → length spec.blocks ≤ number → TeardownsRan spec old new (each_block spec (is_of which)) (tasks_from spec (is_of which) number) → TeardownsRan spec old new (each_block spec (is_of which)) []
+teardowns_end spec which old new number le ran = subst (TeardownsRan spec old new (each_block spec (is_of which))) (tasks_end spec (is_of which) number le) ran
+
+not_setup : (which : Teardowns) (block : Block) → is_of which block.part ≡ true → is_setup block.part ≡ false
+not_setup which block test = by_part which block.part test where
+  by_part : (which : Teardowns) (part : Part) → is_of which part ≡ true → is_setup part ≡ false
+  by_part teardowns.OfSessions parts.Setup test = absurd cc
+  by_part teardowns.OfSessions parts.SessionSetup test = absurd cc
+  by_part teardowns.Main parts.Setup test = absurd cc
+  by_part teardowns.Main parts.SessionSetup test = absurd cc
+  by_part which parts.Step test = refl
+  by_part which parts.SessionTeardown test = refl
+  by_part which parts.Teardown test = refl
+
+module _ (spec : Spec) (which : Teardowns) (old : Ran) (number : ℕ) (block : Block) (there : slice_get spec.blocks number ≡ Some block) where
+  pub teardown_skips : is_of which block.part ≡ false → IsAtRest old → IsNoneBusy old.past → TeardownsRan spec old old (tasks_from spec (is_of which) number) (tasks_from spec (is_of which) (number + 1))
+  teardown_skips part rest none = record {
+    rest = rest;
+    terms = refl;
+    none_busy = none;
+    closed_same = λ s. refl;
+    failed = refl;
+    goes_on = λ steps tasks has. subst (λ (ts : List Task). HasLeft spec steps old.past (ts ++ tasks)) (tasks_skip spec (is_of which) number block there part) has;
+  }
+
+  pub teardown_ran : is_of which block.part ≡ true → (new : Ran) (failed : Bool) → HasRunWhole old new block.session number failed → TeardownsRan spec old new (tasks_from spec (is_of which) number) (tasks_from spec (is_of which) (number + 1))
+  teardown_ran part new failed did =
+      let none = of_setup_not spec number block there (not_setup which block part) in
+      record {
+        rest = did.rest;
+        terms = did.terms;
+        none_busy = did.none_busy;
+        closed_same = did.closed_same;
+        failed = did.fails spec ∙ ap (λ (o : Option ℕ). failed_by (failed_setup spec old.past) o failed) none ∙ failed_none (failed_setup spec old.past) failed;
+        goes_on = λ steps tasks has.
+            let rest_left = tasks_from spec (is_of which) (number + 1) ++ tasks in
+            let here = subst (λ (ts : List Task). HasLeft spec steps old.past (ts ++ tasks)) (tasks_here spec (is_of which) number block there part) has in
+            let after = did.goes_on spec steps rest_left (session_of_block spec number block there) here in
+            subst (HasLeft spec steps new.past) (ap (λ (o : Option ℕ). left_when spec o failed rest_left) none ∙ left_none spec failed rest_left) after;
+      }
 
 -- ---- closes
 
-all_before : (old new : Past) (before : List ℕ) → ((s : ℕ) → closed old s ≡ true → closed new s ≡ true) → AllByRecursion (λ (s : ℕ). closed old s ≡ true) before → AllByRecursion (λ (s : ℕ). closed new s ≡ true) before
-all_before old new [] kept all = tt
-all_before old new (s ∷ before) kept all = (kept s all.0, all_before old new before kept all.1)
+idle_none : (past : Past) → IsNoneBusy past → IsIdle past
+idle_none past none = λ s. rw (none s) refl
 
-all_and_last : (past : Past) (before : List ℕ) (last : ℕ) → AllByRecursion (λ (s : ℕ). closed past s ≡ true) before → closed past last ≡ true → AllByRecursion (λ (s : ℕ). closed past s ≡ true) (before ++ last ∷ [])
-all_and_last past [] last all is = (is, tt)
-all_and_last past (s ∷ before) last all is = (all.0, all_and_last past before last all.1 is)
-
-stays_stopped : (spec : Spec) (steps : List ℕ) (old new : Past) → failed_setup spec new ≡ failed_setup spec old → ended new ≡ ended old → gives new ≡ gives old → HasStopped spec steps old → HasStopped spec steps new
-stays_stopped spec steps old new failed over gave (inl e) = inl (rw failed e)
-stays_stopped spec steps old new failed over gave (inr (inl e)) = inr (inl (over ∙ e))
-stays_stopped spec steps old new failed over gave (inr (inr e)) = inr (inr (rw gave e))
-
--- one more session closed
-close_one : (spec : Spec) (steps : List ℕ) (old new : Ran) (s : ℕ) (left : List ℕ) → closed old.past s ≡ false → IsLegalRun new → IsClosed old new s → IsClosing spec steps old (s ∷ left) → IsClosing spec steps new left
-close_one spec steps old new s left stands legal did so_far =
+-- one session closed
+closes_one : (spec : Spec) (steps : List ℕ) (old new : Ran) (s : ℕ) (tasks : List Task) → IsClosed old new s → HasLeft spec steps old.past (CloseSession s ∷ tasks) → HasLeft spec steps new.past tasks
+closes_one spec steps old new s tasks did has =
     let quietly = quietly_aborted _ _ _ did.is_aborted in
-    let failed : failed_setup spec did.aborted ≡ failed_setup spec old.past = rw did.is at (did.failed spec) in
-    let none : IsNoneBusy did.aborted = λ r. (rw did.is at (did.hands r)) ∙ so_far.none_busy r in
-    let stopped = stays_stopped spec steps old.past did.aborted failed quietly.ended_same quietly.gives_same so_far.stopped in
-    let order : closing_order spec (failed_setup spec did.aborted) ≡ so_far.before ++ s ∷ left = ap (closing_order spec) failed ∙ so_far.order in
-    let closed_before = all_before old.past did.aborted so_far.before (λ r is. quietly.closed_same r ∙ is) so_far.closed_before in
-    let due_so : due spec steps did.aborted ≡ Some (Close s) = due_closes spec steps did.aborted so_far.before left s stopped none order closed_before (quietly.closed_same s ∙ stands) in
-    let closed_after : (r : ℕ) → closed old.past r ≡ true → closed new.past r ≡ true = λ r is. did.closed_now r ∙ rw is (if_true (s == r)) in
-    let closed_here : closed new.past s ≡ true = did.closed_now s ∙ rw (if_same s) refl in
+    let hands : (r : ℕ) → hand did.aborted r ≡ hand old.past r = λ r. rw did.is at (did.hands r) in
+    let same : next_move spec did.aborted (left spec steps did.aborted) ≡ next_move spec old.past (left spec steps old.past) = ap (next_move spec did.aborted) (left_aborted spec steps _ _ _ did.is_aborted) ∙ moves_same spec did.aborted old.past (left spec steps old.past) hands in
+    let due_so : due spec steps did.aborted ≡ Some (Close s) = ap (option_map (λ (move : Move). move.entry)) (same ∙ has.comes_to) in
     record {
-      legal = legal;
-      in_turn = did.in_turn so_far.in_turn;
-      as_due = rw did.is (due_so, quietly.as_due spec steps so_far.as_due);
-      none_busy = λ r. did.hands r ∙ so_far.none_busy r;
-      stopped = inr (inl (rw did.is refl));
-      before = so_far.before ++ s ∷ [];
-      order = ap (closing_order spec) (did.failed spec) ∙ so_far.order ∙ sym (append_assoc so_far.before (s ∷ []) left);
-      closed_before = all_and_last new.past so_far.before s (all_before old.past new.past so_far.before closed_after so_far.closed_before) closed_here;
-    } where
-      if_true : (b : Bool) → cond b true true ≡ true
-      if_true true = refl
-      if_true false = refl
+      as_due = rw did.is (due_so, quietly.as_due spec steps has.as_due);
+      comes_to = ap (next_move spec new.past) (did.left_is spec steps ∙ then_left spec steps old.past (CloseSession s ∷ tasks) has (record { entry = Close s; then_left = tasks }) refl);
+    }
 
-sessions_more : (first count : ℕ) → sessions_from first (suc count) ≡ sessions_from first count ++ (first + count) ∷ []
-sessions_more first zero = let n : first + 0 ≡ first = omega arith in rw n refl
-sessions_more first (suc count) = let n : first + 1 + count ≡ first + suc count = omega arith in ap (λ (l : List ℕ). first ∷ l) (rw n at (sessions_more (first + 1) count))
-
-pub closes_begin : (ran : Ran) (first : ℕ) → SessionsClosed ran ran first first
-closes_begin ran first = record {
+pub closes_begin : (ran : Ran) (first : ℕ) → IsAtRest ran → IsNoneBusy ran.past → SessionsClosed ran ran first first
+closes_begin ran first rest none = record {
+  rest = rest;
   terms = refl;
-  hands = λ s. refl;
+  none_busy = none;
+  closed_now = λ s from below. absurd (omega arith);
   closed_same = λ s apart. refl;
   failed = λ spec. refl;
-  goes_on = λ spec steps left count n closing. let none : count ≡ 0 = omega arith in rw none at closing;
+  goes_on = λ spec steps tasks count n has. let zero_left : count ≡ 0 = omega arith in rw zero_left at has;
 }
 
-pub closes_go_on : (old mid new : Ran) (first session : ℕ) → first ≤ session → closed old.past session ≡ false → SessionsClosed old mid first session → IsLegalRun new → IsClosed mid new session → SessionsClosed old new first (session + 1)
-closes_go_on old mid new first session le stands so_far legal did =
-    let still : closed mid.past session ≡ false = so_far.closed_same session (inr (omega arith)) ∙ stands in
+pub closes_go_on : (old mid new : Ran) (first session : ℕ) → first ≤ session → SessionsClosed old mid first session → IsLegalRun new → IsClosed mid new session → SessionsClosed old new first (session + 1)
+closes_go_on old mid new first session le so_far legal did =
+    let none : IsNoneBusy new.past = λ s. did.hands s ∙ so_far.none_busy s in
     record {
+      rest = record { legal = legal; in_turn = did.in_turn so_far.rest.in_turn; idle = idle_none new.past none };
       terms = did.terms ∙ so_far.terms;
-      hands = λ s. did.hands s ∙ so_far.hands s;
+      none_busy = none;
+      closed_now = λ s from below. did.closed_now s ∙ here s from below (eqb_tells session s);
       closed_same = λ s apart. did.closed_now s ∙ rw (other s apart) (so_far.closed_same s (nearer s apart));
       failed = λ spec. did.failed spec ∙ so_far.failed spec;
-      goes_on = λ spec steps left count n closing. one_more spec steps left count n closing still;
+      goes_on = λ spec steps tasks count n has. one_more spec steps tasks count n has;
     } where
+      here : (s : ℕ) → first ≤ s → s < session + 1 → ((eqb session s ≡ true) × (session ≡ s)) ⊎ ((eqb session s ≡ false) × (session ≢ s)) → cond (session == s) true (closed mid.past s) ≡ true
+      here s from below (inl e) = rw e.0 refl
+      here s from below (inr e) = let apart : session ≢ s = e.1 in rw e.0 (so_far.closed_now s from (omega arith))
+
       other : (s : ℕ) → (s < first) ⊎ (session + 1 ≤ s) → (session == s) ≡ false
       other s (inl lt) = ne_eqb session s (λ e. omega arith)
       other s (inr ge) = ne_eqb session s (λ e. omega arith)
@@ -141,100 +207,91 @@ closes_go_on old mid new first session le stands so_far legal did =
       nearer s (inl lt) = inl lt
       nearer s (inr ge) = inr (omega arith)
 
-      one_more : (spec : Spec) (steps left : List ℕ) (count : ℕ) → first + count ≡ session + 1 → IsClosing spec steps old (sessions_from first count ++ left) → closed mid.past session ≡ false → IsClosing spec steps new left
-      one_more spec steps left zero n closing still = absurd (omega arith)
-      one_more spec steps left (suc count) n closing still =
+      one_more : (spec : Spec) (steps : List ℕ) (tasks : List Task) (count : ℕ) → first + count ≡ session + 1 → HasLeft spec steps old.past (each_session CloseSession (sessions_from first count) ++ tasks) → HasLeft spec steps new.past tasks
+      one_more spec steps tasks zero n has = absurd (omega arith)
+      one_more spec steps tasks (suc count) n has =
           let at : first + count ≡ session = omega arith in
-          let list : sessions_from first (suc count) ++ left ≡ sessions_from first count ++ session ∷ left = ap (λ (l : List ℕ). l ++ left) (sessions_more first count) ∙ append_assoc (sessions_from first count) ((first + count) ∷ []) left ∙ ap (λ (m : ℕ). sessions_from first count ++ m ∷ left) at in
-          close_one spec steps mid new session left still legal did (so_far.goes_on spec steps (session ∷ left) count at (subst (IsClosing spec steps old) list closing))
+          let list = each_more CloseSession first count tasks ∙ ap (λ (m : ℕ). each_session CloseSession (sessions_from first count) ++ CloseSession m ∷ tasks) at in
+          closes_one spec steps mid new session tasks did (so_far.goes_on spec steps (CloseSession session ∷ tasks) count at (subst (HasLeft spec steps old.past) list has))
 
 -- ---- the end
 
--- all sessions are closed after a failed setup part
-pub closing_failed : (spec : Spec) (steps : List ℕ) (ran : Ran) (block : ℕ) → SetupFailed spec ran block → IsClosing spec steps ran (sessions_from 0 (suc (length spec.sessions)) ++ [])
-closing_failed spec steps ran block failed = record {
-  legal = failed.rest.legal;
-  in_turn = failed.rest.in_turn;
-  as_due = failed.as_due steps;
-  none_busy = failed.none_busy;
-  stopped = inl (rw failed.failed refl);
-  before = [];
-  order = ap (closing_order spec) failed.failed ∙ sym (append-nil (0 ∷ sessions_from 1 (length spec.sessions)));
-  closed_before = tt;
-}
-
-pub none_busy_after : (spec : Spec) (steps : List ℕ) (ran : Ran) (end : ℕ) → end ≡ length spec.sessions + 1 → CancelledSoFar spec steps ran end → IsNoneBusy ran.past
-none_busy_after spec steps ran end n done = λ s. by_order s (leb_tells s (length spec.sessions)) where
-  by_order : (s : ℕ) → ((leb s (length spec.sessions) ≡ true) × (s ≤ length spec.sessions)) ⊎ ((leb s (length spec.sessions) ≡ false) × (length spec.sessions < s)) → hand ran.past s ≡ None
-  by_order s (inl e) = let le : s ≤ length spec.sessions = e.1 in done.none_below s (omega arith)
-  by_order s (inr e) = done.ran_steps.now.none_beyond s e.1
-
--- the sessions of the file are closed after the steps, and then the control session
-pub closing_done : (spec : Spec) (steps : List ℕ) (ran : Ran) → CancelledSoFar spec steps ran (length spec.sessions + 1) → IsClosing spec steps ran (sessions_from 1 (length spec.sessions) ++ 0 ∷ [])
-closing_done spec steps ran done =
-    let now = done.ran_steps.now in
-    let none = none_busy_after spec steps ran (length spec.sessions + 1) refl done in
-    record {
-      legal = now.rest.legal;
-      in_turn = now.rest.in_turn;
-      as_due = now.as_due;
-      none_busy = none;
-      stopped = inr (stopped_idle spec ran.past (next_block spec steps ran.past) none done.ran_steps.no_more);
-      before = [];
-      order = ap (closing_order spec) now.failed;
-      closed_before = tt;
-    }
-
 pub ends_failed : (spec : Spec) (steps : List ℕ) (old new : Ran) (block end : ℕ) → end ≡ length spec.sessions + 1 → SetupFailed spec old block → SessionsClosed old new 0 end → IsEnded spec new steps (setups.Failed block)
-ends_failed spec steps old new block end n failed closes = record {
-  closing = closes.goes_on spec steps [] (suc (length spec.sessions)) (omega arith) (closing_failed spec steps old block failed);
-  failed = closes.failed spec ∙ failed.failed;
+ends_failed spec steps old new block end n failed did = record {
+  rest = did.rest;
+  has_left = did.goes_on spec steps [] (suc (length spec.sessions)) (omega arith) (subst (HasLeft spec steps old.past) (sym (append-nil _)) (failed.has_left steps));
+  all_closed = λ s le. did.closed_now s (omega arith) (omega arith);
+  failed = did.failed spec ∙ failed.failed;
 }
 
-pub ends_done : (spec : Spec) (steps : List ℕ) (old mid new : Ran) (end : ℕ) → end ≡ length spec.sessions + 1 → CancelledSoFar spec steps old end → SessionsClosed old mid 1 end → SessionsClosed mid new 0 1 → IsEnded spec new steps setups.Done
-ends_done spec steps old mid new end n done first last =
-    let cancelled = rw n at done in
-    record {
-      closing = last.goes_on spec steps [] 1 refl (first.goes_on spec steps (0 ∷ []) (length spec.sessions) (omega arith) (closing_done spec steps old cancelled));
-      failed = last.failed spec ∙ first.failed spec ∙ cancelled.ran_steps.now.failed;
-    }
+-- after the cancels no session is busy
+module _ (spec : Spec) (steps : List ℕ) (a b : Ran) (end : ℕ) (n : end ≡ length spec.sessions + 1) (steps_ran : StepsRan spec steps a) (cancelled : SessionsCancelled a b end) where
+  pub none_after_cancels : IsNoneBusy b.past
+  none_after_cancels = λ s. by_order s (leb_tells s (length spec.sessions)) where
+    by_order : (s : ℕ) → ((leb s (length spec.sessions) ≡ true) × (s ≤ length spec.sessions)) ⊎ ((leb s (length spec.sessions) ≡ false) × (length spec.sessions < s)) → hand b.past s ≡ None
+    by_order s (inl e) = let le : s ≤ length spec.sessions = e.1 in cancelled.none_below s (omega arith)
+    by_order s (inr e) = stays_none (hand a.past s) (hand b.past s) (cancelled.hands s) (steps_ran.none_beyond s e.1)
 
--- a session in a list whose sessions are all closed
-closed_from : (past : Past) (first count s : ℕ) (rest : List ℕ) → AllByRecursion (λ (r : ℕ). closed past r ≡ true) (sessions_from first count ++ rest) → first ≤ s → s < first + count → closed past s ≡ true
-closed_from past first zero s rest all from below = absurd (omega arith)
-closed_from past first (suc count) s rest all from below = by_session (eqb_tells first s) (λ apart. closed_from past (first + 1) count s rest all.1 (omega arith) (omega arith)) where
-  by_session : ((eqb first s ≡ true) × (first ≡ s)) ⊎ ((eqb first s ≡ false) × (first ≢ s)) → (first ≢ s → closed past s ≡ true) → closed past s ≡ true
-  by_session (inl e) later = subst (λ (r : ℕ). closed past r ≡ true) e.1 all.0
-  by_session (inr e) later = later e.1
+  pub open_after_cancels : IsAnyOpen b.past
+  open_after_cancels = λ s. cancelled.closed_same s ∙ steps_ran.any_open s
 
-closed_last : (past : Past) (sessions : List ℕ) (last : ℕ) → AllByRecursion (λ (r : ℕ). closed past r ≡ true) (sessions ++ last ∷ []) → closed past last ≡ true
-closed_last past [] last all = all.0
-closed_last past (s ∷ sessions) last all = closed_last past sessions last all.1
+  pub open_for_sessions : AreOpenFor spec teardowns.OfSessions b.past
+  open_for_sessions = λ number block there test. open_after_cancels block.session
 
-closed_in_order : (spec : Spec) (past : Past) (failed : Option ℕ) → AllByRecursion (λ (r : ℕ). closed past r ≡ true) (closing_order spec failed) → (s : ℕ) → s ≤ length spec.sessions → closed past s ≡ true
-closed_in_order spec past None all zero le = closed_last past (sessions_from 1 (length spec.sessions)) 0 all
-closed_in_order spec past None all (suc s) le = closed_from past 1 (length spec.sessions) (suc s) (0 ∷ []) all (omega arith) (omega arith)
-closed_in_order spec past (Some block) all zero le = all.0
-closed_in_order spec past (Some block) all (suc s) le = closed_from past 1 (length spec.sessions) (suc s) [] (rw append-nil all.1) (omega arith) (omega arith)
+  left_after_cancels : HasLeft spec steps b.past (after_cancels spec)
+  left_after_cancels = cancelled.goes_on spec steps (after_cancels spec) steps_ran.plain (subst (λ (k : ℕ). HasLeft spec steps a.past (each_session CancelIfBusy (sessions_from 0 k) ++ after_cancels spec)) (let m : suc (length spec.sessions) ≡ end = omega arith in m) steps_ran.has_left)
+
+  module _ (c d : Ran) (down : TeardownsRan spec b c (each_block spec (is_of teardowns.OfSessions)) []) (closed_most : SessionsClosed c d 1 end) where
+    pub open_before_closes : IsAnyOpen c.past
+    open_before_closes = λ s. down.closed_same s ∙ open_after_cancels s
+
+    control_open : closed d.past 0 ≡ false
+    control_open = closed_most.closed_same 0 (inl (omega arith)) ∙ open_before_closes 0
+
+    pub open_for_main : IsSound spec → AreOpenFor spec teardowns.Main d.past
+    open_for_main sound = λ number block there test. subst (λ (s : ℕ). closed d.past s ≡ false) (sym (teardown_session spec number block sound there test)) control_open
+
+    module _ (e : Ran) (main_down : TeardownsRan spec d e (each_block spec (is_of teardowns.Main)) []) where
+      pub control_still_open : closed e.past 0 ≡ false
+      control_still_open = main_down.closed_same 0 ∙ control_open
+
+      pub ends_done : (f : Ran) → SessionsClosed e f 0 1 → IsEnded spec f steps setups.Done
+      ends_done f last = record {
+        rest = last.rest;
+        has_left =
+            let in_teardowns = down.goes_on steps (after_teardowns spec) left_after_cancels in
+            let in_closes = closed_most.goes_on spec steps (after_closes spec) (length spec.sessions) (omega arith) in_teardowns in
+            let in_main = main_down.goes_on steps (CloseSession 0 ∷ []) in_closes in
+            last.goes_on spec steps [] 1 refl in_main;
+        all_closed = λ s le. closed_at s le;
+        failed = last.failed spec ∙ main_down.failed ∙ closed_most.failed spec ∙ down.failed ∙ cancelled.failed spec steps_ran.plain ∙ steps_ran.failed;
+      } where
+        closed_at : (s : ℕ) → s ≤ length spec.sessions → closed f.past s ≡ true
+        closed_at zero le = last.closed_now 0 (omega arith) (omega arith)
+        closed_at (suc s) le = last.closed_same (suc s) (inr (omega arith)) ∙ main_down.closed_same (suc s) ∙ closed_most.closed_now (suc s) (omega arith) (omega arith)
 
 setup_back : (setup : Setup) → setup ≡ setup_by (failed_block setup)
 setup_back setups.Done = refl
 setup_back (setups.Failed block) = refl
 
 -- the run as a whole
-pub is_run : (spec : Spec) (terms : Terms) (number : ℕ) (steps : List ℕ) (setup : Setup) (ran : Ran) (history : Kept) → ran.terms ≡ terms → past_of history ≡ ran.past → IsEnded spec ran steps setup → IsRun spec terms number steps (record { permutation = number; setup = setup; history = history })
+is_run : (spec : Spec) (terms : Terms) (number : ℕ) (steps : List ℕ) (setup : Setup) (ran : Ran) (history : Kept) → ran.terms ≡ terms → past_of history ≡ ran.past → IsEnded spec ran steps setup → IsRun spec terms number steps (record { permutation = number; setup = setup; history = history })
 is_run spec terms number steps setup ran history same journal over =
-    let closing = over.closing in
-    let all_closed = subst (AllByRecursion (λ (r : ℕ). closed ran.past r ≡ true)) (sym (closing.order ∙ append-nil closing.before)) closing.closed_before in
     record {
       permutation = refl;
-      legal = rw (journal, ← same) closing.legal;
+      legal = rw (journal, ← same) over.rest.legal;
       whole = rw (journal, ← same) (record {
-        as_due = closing.as_due;
-        in_turn = closing.in_turn;
-        all_done = due_none spec steps ran.past closing.before closing.stopped closing.none_busy closing.order closing.closed_before;
-        all_closed = closed_in_order spec ran.past (failed_setup spec ran.past) all_closed;
+        as_due = over.has_left.as_due;
+        in_turn = over.rest.in_turn;
+        all_done = ap (option_map (λ (move : Move). move.entry)) over.has_left.comes_to;
+        all_closed = over.all_closed;
       });
       holding = hold_always terms _;
       setup = setup_back setup ∙ rw (journal, over.failed) refl;
     }
+
+pub has_run_one : (spec : Spec) (scripts : Scripts) (number : ℕ) (steps : List ℕ) (setup : Setup) (ran : Ran) (history : Kept) (back : Scripts) → ran.terms ≡ terms_for spec scripts → past_of history ≡ ran.past → back ≡ ran.terms.scripts → IsEnded spec ran steps setup → HasRunOne spec scripts number steps (record { permutation = number; setup = setup; history = history }) back
+has_run_one spec scripts number steps setup ran history back same journal kept over = record {
+  is_run = is_run spec (terms_for spec scripts) number steps setup ran history same journal over;
+  same = kept ∙ ap (λ (terms : Terms). terms.scripts) same;
+}

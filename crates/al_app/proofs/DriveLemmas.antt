@@ -1,13 +1,15 @@
 -- Turns of the sessions, until none can go on.
-use Rattle.std.proofs.Common.{◌≡◌, ℕ, ◌<◌, ◌^◌, refl, subst, Option, Some, None, Bool, true, false, arith, ◌∙◌, inl, inr}
+use Rattle.std.proofs.Common.{◌≡◌, ℕ, List, ◌∷◌, ap, refl, subst, Option, Some, None, Bool, true, false, arith, ◌∙◌, inl, inr}
 use Rattle.std.specs.Prelude.{◌⊎◌, ◌||◌, ◌==◌, ◌≢◌, eqb, IsSome}
 use Rattle.std.proofs.lemmas.Bool.Decides.{eqb_tells}
 use Rattle.al_spec.specs.declared.spec.Spec.{Spec}
 use Rattle.al_history.specs.Past.{Past}
 use Rattle.al_history.specs.Hand.{hand}
-use Rattle.al_history.specs.Whole.{or_else, of_setup, failed_setup, IsLeast}
-use Rattle.al_engine.specs.Ran.{Ran, IsLegalRun, WentOn, Cancels, IsCancelled, failed_after}
-use Rattle.al_app.specs.Runs.{AreOfSetup, failed_by, HasAnyEnded, WentOnInTurn, HasTurned, IsDriven, IsAtRest, HasRunBlock, with_given, WasCancelled}
+use Rattle.al_history.specs.declared.entry.Entry.TheVariants.{Cancel}
+use Rattle.al_history.specs.Whole.{or_else, of_setup, failed_setup, Task, CancelIfBusy, next_move, left_by, left, IsLeast}
+use Rattle.al_engine.specs.Ran.{Ran, IsLegalRun, GoesOn, WentOn, Cancels, IsCancelled, failed_after, left_after}
+use Rattle.al_app.specs.Runs.{left_when, AreOfSetup, failed_by, HasAnyEnded, WentOnInTurn, HasTurned, IsDriven, IsAtRest, HasRunBlock, with_given, WasCancelled}
+use Rattle.al_app.proofs.LeftLemmas.{due_is, then_left, cancels_busy, left_twice}
 use Rattle.al_app.proofs.QuietLemmas.{quietly_not, quietly_then, quietly_extended, quietly_after_cancel}
 
 -- ---- one turn
@@ -24,8 +26,19 @@ failed_of : (spec : Spec) (failed block part : Option ℕ) (refused : Bool) → 
 failed_of spec failed block part refused busy (inl none) = absurd cc
 failed_of spec failed block part refused busy (inr is) = rw is refl
 
-pub has_turned : (old new : Ran) (session from to : ℕ) (refused : Bool) → IsLeast old.past session → IsLegalRun new → to < 2 ^ 32 → WentOn old new session from to refused → HasTurned old new refused
-has_turned old new session from to refused least legal few did =
+-- what is left, after the step in hand of this block
+left_of : (spec : Spec) (tasks : List Task) (block part : Option ℕ) (refused : Bool) → IsSome block → (block ≡ None) ⊎ (of_setup spec block ≡ part) → left_after spec block refused tasks ≡ left_when spec part refused tasks
+left_of spec tasks block part refused busy (inl none) = absurd cc
+left_of spec tasks block part refused busy (inr is) = rw is refl
+
+refuses_of : (old new : Ran) (session : ℕ) (refused : Bool) (base : (spec : Spec) → List ℕ → List Task) → GoesOn old new session refused → ((spec : Spec) (steps : List ℕ) → left spec steps new.past ≡ left_after spec (hand old.past session) refused (base spec steps)) → (spec : Spec) (steps : List ℕ) (part : Option ℕ) → AreOfSetup spec part old.past → left spec steps new.past ≡ left_when spec part refused (base spec steps)
+refuses_of old new session refused base did left_is spec steps part all = left_is spec steps ∙ left_of spec (base spec steps) (hand old.past session) part refused did.in_step (all session)
+
+failed_in : (old new : Ran) (session : ℕ) (refused : Bool) → GoesOn old new session refused → (spec : Spec) (part : Option ℕ) → AreOfSetup spec part old.past → failed_setup spec new.past ≡ failed_by (failed_setup spec old.past) part refused
+failed_in old new session refused did spec part all = did.failed spec ∙ failed_of spec (failed_setup spec old.past) (hand old.past session) part refused did.in_step (all session)
+
+pub has_turned : (old new : Ran) (session from to : ℕ) (refused : Bool) → IsLeast old.past session → IsLegalRun new → WentOn old new session from to refused → HasTurned old new refused
+has_turned old new session from to refused least legal did =
     record {
       went = record {
         terms = did.goes_on.terms;
@@ -34,10 +47,12 @@ has_turned old new session from to refused least legal few did =
         quietly = quietly_extended session old.past new.past did.goes_on.extends did.driven;
         hands = λ s. hand_after old.past new.past session s did.goes_on.own did.goes_on.others;
         any_ended = λ e. (session, did.goes_on.in_step, did.refused_ends e);
-        failed = λ spec part all. did.goes_on.failed spec ∙ failed_of spec (failed_setup spec old.past) (hand old.past session) part refused did.goes_on.in_step (all session);
+        refuses = record {
+          failed = failed_in old new session refused did.goes_on;
+          left_is = refuses_of old new session refused (λ spec steps. left spec steps old.past) did.goes_on did.left_is;
+        };
       };
-      more = omega (arith, did.from_is, did.to_is, did.some);
-      few = omega (arith, did.to_is, few);
+      fewer = did.fewer_left;
     }
 
 -- ---- turns
@@ -50,10 +65,10 @@ went_not ran = record {
   quietly = quietly_not ran.past;
   hands = λ s. inr refl;
   any_ended = λ e. absurd cc;
-  failed = λ spec part all. refl;
+  refuses = record { failed = λ spec part all. refl; left_is = λ spec steps part all. refl };
 }
 
-none_later : (old mid new : Past) (s : ℕ) → (hand mid s ≡ None) ⊎ (hand mid s ≡ hand old s) → (hand new s ≡ None) ⊎ (hand new s ≡ hand mid s) → (hand new s ≡ None) ⊎ (hand new s ≡ hand old s)
+pub none_later : (old mid new : Past) (s : ℕ) → (hand mid s ≡ None) ⊎ (hand mid s ≡ hand old s) → (hand new s ≡ None) ⊎ (hand new s ≡ hand mid s) → (hand new s ≡ None) ⊎ (hand new s ≡ hand old s)
 none_later old mid new s first (inl none) = inl none
 none_later old mid new s (inl none) (inr same) = inl (same ∙ none)
 none_later old mid new s (inr before) (inr same) = inr (same ∙ before)
@@ -96,7 +111,10 @@ went_then old mid new r1 r2 first then = record {
   quietly = quietly_then old.past mid.past new.past first.quietly then.quietly;
   hands = λ s. none_later old.past mid.past new.past s (first.hands s) (then.hands s);
   any_ended = any_ended_then old.past mid.past new.past r1 r2 first.hands then.hands first.any_ended then.any_ended;
-  failed = λ spec part all. then.failed spec part (of_setup_later spec part old.past mid.past first.hands all) ∙ failed_twice (failed_setup spec old.past) (failed_setup spec mid.past) part r1 r2 (first.failed spec part all);
+  refuses = record {
+    failed = λ spec part all. then.refuses.failed spec part (of_setup_later spec part old.past mid.past first.hands all) ∙ failed_twice (failed_setup spec old.past) (failed_setup spec mid.past) part r1 r2 (first.refuses.failed spec part all);
+    left_is = λ spec steps part all. then.refuses.left_is spec steps part (of_setup_later spec part old.past mid.past first.hands all) ∙ left_twice spec (left spec steps old.past) (left spec steps mid.past) part r1 r2 (first.refuses.left_is spec steps part all);
+  };
 }
 
 -- ---- a block, a cancel
@@ -124,11 +142,17 @@ was_cancelled old mid new session refused rest legal did driven =
       rest = record { legal = driven.went.legal legal; in_turn = driven.went.in_turn (did.in_turn rest.idle rest.in_turn); idle = driven.idle };
       terms = driven.went.terms ∙ did.goes_on.terms;
       in_step = did.goes_on.in_step;
-      as_due = λ spec steps due_so all. quietly.as_due spec steps (due_so, all);
-      gives_same = quietly.gives_same;
-      ended = quietly.ended_same;
       closed_same = quietly.closed_same;
       own = stays_none (hand mid.past session) (hand new.past session) (driven.went.hands session) did.ended;
       hands = λ s. none_later old.past mid.past new.past s (hands_mid s) (driven.went.hands s);
-      failed = λ spec part all. driven.went.failed spec part (of_setup_later spec part old.past mid.past hands_mid all) ∙ failed_cancelled (failed_setup spec old.past) (failed_setup spec mid.past) part refused (did.goes_on.failed spec ∙ failed_of spec (failed_setup spec old.past) (hand old.past session) part true did.goes_on.in_step (all session));
+      failed = λ spec part all. driven.went.refuses.failed spec part (of_setup_later spec part old.past mid.past hands_mid all) ∙ failed_cancelled (failed_setup spec old.past) (failed_setup spec mid.past) part refused (failed_in old mid session true did.goes_on spec part all);
+      goes_on = λ spec steps part tasks all has.
+          let moves = cancels_busy spec old.past session tasks did.goes_on.in_step in
+          let rest_left = then_left spec steps old.past (CancelIfBusy session ∷ tasks) has (record { entry = Cancel session; then_left = tasks }) moves in
+          let before = refuses_of old mid session true (λ spec steps. left_by (next_move spec old.past (left spec steps old.past))) did.goes_on did.left_is spec steps part all ∙ ap (left_when spec part true) rest_left in
+          let after = driven.went.refuses.left_is spec steps part (of_setup_later spec part old.past mid.past hands_mid all) ∙ left_twice spec tasks (left spec steps mid.past) part true refused before in
+          record {
+            as_due = quietly.as_due spec steps (due_is spec steps old.past (CancelIfBusy session ∷ tasks) has (record { entry = Cancel session; then_left = tasks }) moves, has.as_due);
+            comes_to = ap (next_move spec new.past) after;
+          };
     }

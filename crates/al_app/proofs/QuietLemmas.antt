@@ -6,7 +6,8 @@ use Rattle.al_history.specs.declared.entry.Cause.TheVariants as causes
 use Rattle.al_history.specs.Past.{Past}
 use Rattle.al_history.specs.Locks.{is_grant}
 use Rattle.al_history.specs.Made.{Extends}
-use Rattle.al_history.specs.Whole.{driver}
+use Rattle.al_spec.specs.declared.spec.Spec.{Spec}
+use Rattle.al_history.specs.Whole.{driver, left}
 use Rattle.al_engine.specs.Ran.{Ran, aborted_by, AreGrants, IsAborted, IsCancelled}
 use Rattle.al_app.specs.Runs.{IsQuietly}
 
@@ -22,13 +23,11 @@ AreQuiet [] = Unit {0}
 AreQuiet (e ∷ entries) = IsQuiet e × AreQuiet entries
 
 pub quietly_not : (past : Past) → IsQuietly past past
-quietly_not past = record { as_due = λ spec steps all. all; gives_same = refl; ended_same = refl; closed_same = λ s. refl }
+quietly_not past = record { as_due = λ spec steps all. all; closed_same = λ s. refl }
 
 pub quietly_then : (old mid new : Past) → IsQuietly old mid → IsQuietly mid new → IsQuietly old new
 quietly_then old mid new first then = record {
   as_due = λ spec steps all. then.as_due spec steps (first.as_due spec steps all);
-  gives_same = then.gives_same ∙ first.gives_same;
-  ended_same = then.ended_same ∙ first.ended_same;
   closed_same = λ s. then.closed_same s ∙ first.closed_same s;
 }
 
@@ -36,7 +35,7 @@ quietly_one : (e : Entry) (past : Past) → IsQuiet e → IsQuietly past (e ∷ 
 quietly_one (Give s block) past quiet = absurd quiet
 quietly_one (Cancel s) past quiet = absurd quiet
 quietly_one (Close s) past quiet = absurd quiet
-quietly_one e past quiet = record { as_due = λ spec steps all. all; gives_same = refl; ended_same = refl; closed_same = λ s. refl }
+quietly_one e past quiet = record { as_due = λ spec steps all. all; closed_same = λ s. refl }
 
 quietly_all : (entries : List Entry) (past : Past) → AreQuiet entries → IsQuietly past (entries ++ past)
 quietly_all [] past quiet = quietly_not past
@@ -101,3 +100,38 @@ quietly_after_cancel old new s did =
     let aborted = quietly_aborted _ _ _ did.is_aborted in
     let over = quietly_one (End s) did.aborted tt in
     rw did.is (quietly_then _ _ _ refused (quietly_then _ _ _ aborted over))
+
+-- ---- what is left after an abort
+
+-- an entry that is neither the driver's nor a refusal
+abbrev IsSilent : Entry → Type 0
+IsSilent (Give s block) = ⊥
+IsSilent (Cancel s) = ⊥
+IsSilent (Close s) = ⊥
+IsSilent (Refuse s cause) = ⊥
+IsSilent e = Unit {0}
+
+left_silent : (spec : Spec) (steps : List ℕ) (e : Entry) (past : Past) → IsSilent e → left spec steps (e ∷ past) ≡ left spec steps past
+left_silent spec steps (Give s block) past silent = absurd silent
+left_silent spec steps (Cancel s) past silent = absurd silent
+left_silent spec steps (Close s) past silent = absurd silent
+left_silent spec steps (Refuse s cause) past silent = absurd silent
+left_silent spec steps e past silent = refl
+
+silent_grant : (e : Entry) (past : Past) → is_grant past e ≡ true → IsSilent e
+silent_grant (Give s block) past grant = cc
+silent_grant (Cancel s) past grant = cc
+silent_grant (Close s) past grant = cc
+silent_grant (Refuse s cause) past grant = cc
+silent_grant e past grant = tt
+
+left_grants : (spec : Spec) (steps : List ℕ) (entries : List Entry) (past : Past) → AreGrants entries past → left spec steps (entries ++ past) ≡ left spec steps past
+left_grants spec steps [] past grants = refl
+left_grants spec steps (e ∷ entries) past grants = left_silent spec steps e (entries ++ past) (silent_grant e (entries ++ past) grants.0) ∙ left_grants spec steps entries past grants.1
+
+left_aborted_by : (spec : Spec) (steps : List ℕ) (x : Option ℕ) (past : Past) → left spec steps (aborted_by x past) ≡ left spec steps past
+left_aborted_by spec steps None past = refl
+left_aborted_by spec steps (Some x) past = refl
+
+pub left_aborted : (spec : Spec) (steps : List ℕ) (x : Option ℕ) (old new : Past) → IsAborted x old new → left spec steps new ≡ left spec steps old
+left_aborted spec steps x old new did = ap (left spec steps) did.is ∙ left_grants spec steps did.grants (aborted_by x old) did.are_grants ∙ left_aborted_by spec steps x old

@@ -17,7 +17,8 @@ use Rattle.al_history.specs.declared.run.Setup.TheVariants as setups
 use Rattle.al_spec.specs.declared.spec.Block.{Block}
 use Rattle.al_spec.specs.declared.spec.Part.TheVariants as parts
 use Rattle.al_spec.specs.declared.spec.Spec.{Spec}
-use Rattle.al_app.specs.Report.{report, run_text, blocked_text, name_text, is_plain, step_text, cause_text, row_count_text, waits}
+use Rattle.al_app.specs.Report.{report, run_text, blocked_text, name_text, step_text, cause_text, row_count_text, waits}
+use Rattle.al_spec.specs.Tokens.{word_of}
 
 -- one session, two setup blocks, two steps and the permutation of both
 abbrev spec_with : List ℕ → Spec
@@ -45,7 +46,7 @@ whole_run :
     ∷ entries.Read 10 (codes "a" ∷ codes "b" ∷ []) ((values.Int (pos 1) ∷ values.Null ∷ []) ∷ [])
     ∷ entries.Done 1 (replies.Rows 10) ∷ entries.End 1 ∷ []) ∷ [])
     ≡ codes "Parsed test spec with 1 sessions\n\nstarting permutation: add sel\nsetup 1\nCREATE TABLE\nsetup 2\nINSERT 0 1\nstep add: ALTER TABLE t ADD COLUMN b integer;\nALTER TABLE\nstep sel: SELECT * FROM t;\na|b\n1|\n(1 row)\n"
-unfolding report run_text blocked_text name_text is_plain step_text digits
+unfolding report run_text blocked_text name_text word_of step_text digits
 whole_run = refl
 
 failed_setup :
@@ -54,7 +55,7 @@ failed_setup :
     (entries.Give 0 0 ∷ entries.Done 0 (replies.Tag tags.CreateTable 0) ∷ entries.End 0
     ∷ entries.Give 0 1 ∷ entries.Refuse 0 (causes.TwiceTable (codes "t")) ∷ entries.End 0 ∷ []) ∷ [])
     ≡ codes "Parsed test spec with 1 sessions\n\nstarting permutation: add sel\nsetup 1\nCREATE TABLE\nsetup 2\nERROR: 42P07: table \"t\" already exists\nsetup failed\n"
-unfolding report run_text blocked_text name_text is_plain step_text digits
+unfolding report run_text blocked_text name_text word_of step_text digits
 failed_setup = refl
 
 -- what isn't there has no text: a permutation, a block, a Read
@@ -62,7 +63,7 @@ missing :
     report (spec_with [])
     (record { permutation = 2; setup = setups.Done; history = record { entries = entries.Give 1 9 ∷ entries.Done 1 (replies.Rows 0) ∷ []; room = 0 } } ∷ [])
     ≡ codes "Parsed test spec with 1 sessions\n\nstarting permutation: \n"
-unfolding report run_text blocked_text name_text is_plain step_text digits
+unfolding report run_text blocked_text name_text word_of step_text digits
 missing = refl
 
 no_rows : row_count_text 0 ≡ codes "(0 rows)\n"
@@ -122,7 +123,7 @@ reader_waits :
     ∷ entries.Done 2 (replies.Rows 34) ∷ entries.Commit 26 ∷ entries.End 2
     ∷ entries.Close 1 ∷ entries.Close 2 ∷ entries.Close 3 ∷ entries.Close 0 ∷ []) ∷ [])
     ≡ altered_text (codes "b x r e") (codes "step r: SELECT * FROM t <waiting ...>\nstep e: ROLLBACK\nROLLBACK\nstep r: <... completed>\na\n1\n(1 row)\n")
-unfolding report run_text blocked_text name_text is_plain step_text digits
+unfolding report run_text blocked_text name_text word_of step_text digits
 reader_waits = refl
 
 -- two steps that wait, and are completed in the order of their Ends
@@ -140,7 +141,7 @@ two_completed :
     ∷ entries.Done 2 (replies.Rows 43) ∷ entries.Commit 29 ∷ entries.End 2
     ∷ entries.Close 1 ∷ entries.Close 2 ∷ entries.Close 3 ∷ entries.Close 0 ∷ []) ∷ [])
     ≡ altered_text (codes "b x y r e") (codes "step y: ALTER TABLE t ADD COLUMN b integer <waiting ...>\nstep r: SELECT * FROM t <waiting ...>\nstep e: ROLLBACK\nROLLBACK\nstep y: <... completed>\nALTER TABLE\nstep r: <... completed>\na|b\n1|\n(1 row)\n")
-unfolding report run_text blocked_text name_text is_plain step_text digits
+unfolding report run_text blocked_text name_text word_of step_text digits
 two_completed = refl
 
 -- a step for a session that waits isn't given, and none after it; then the steps that wait are cancelled
@@ -154,7 +155,7 @@ blocked_step :
     ∷ entries.Cancel 3 ∷ entries.Refuse 3 (causes.Cancelled 35) ∷ entries.Abort 26 ∷ entries.End 3
     ∷ entries.Abort 16 ∷ entries.Close 1 ∷ entries.Close 2 ∷ entries.Close 3 ∷ entries.Close 0 ∷ []) ∷ [])
     ≡ altered_text (codes "b x y r r e") (codes "step y: ALTER TABLE t ADD COLUMN b integer <waiting ...>\nstep r: SELECT * FROM t <waiting ...>\nstep r: not given, session s2 is blocked\nstep r: <... completed>\nERROR: 57014: cancelled\nstep y: <... completed>\nERROR: 57014: cancelled\n")
-unfolding report run_text blocked_text name_text is_plain step_text digits
+unfolding report run_text blocked_text name_text word_of step_text digits
 blocked_step = refl
 
 -- a part begins with its own step, also where another ends before it; a step that is named twice waits once
@@ -166,7 +167,7 @@ own_step_first :
     ∷ entries.Done 1 (replies.Tag tags.Rollback 0) ∷ entries.End 1
     ∷ entries.Give 2 5 ∷ entries.Done 2 (replies.Tag tags.Commit 0) ∷ entries.End 2 ∷ []) ∷ [])
     ≡ codes "Parsed test spec with 3 sessions\n\nstarting permutation: r e r\nstep r: SELECT * FROM t <waiting ...>\nstep e: ROLLBACK\nROLLBACK\nstep r: <... completed>\nBEGIN\nstep r: SELECT * FROM t\nCOMMIT\n"
-unfolding report run_text blocked_text name_text is_plain step_text digits
+unfolding report run_text blocked_text name_text word_of step_text digits
 own_step_first = refl
 
 -- the replies of a setup block follow its head, also where it is cancelled, and no step was to be given after it
@@ -176,7 +177,7 @@ cancelled_setup :
     (entries.Give 0 0 ∷ entries.Cancel 0 ∷ entries.Refuse 0 (causes.Cancelled 1) ∷ entries.End 0
     ∷ entries.Close 0 ∷ entries.Close 1 ∷ entries.Close 2 ∷ entries.Close 3 ∷ []) ∷ [])
     ≡ codes "Parsed test spec with 3 sessions\n\nstarting permutation: b\nsetup 1\nERROR: 57014: cancelled\nsetup failed\n"
-unfolding report run_text blocked_text name_text is_plain step_text digits
+unfolding report run_text blocked_text name_text word_of step_text digits
 cancelled_setup = refl
 
 -- a limit of the run is told without the count
@@ -201,15 +202,49 @@ end_in_part_is_no_wait e = cc e
 plain_names :
     (name_text (codes "s1") ∷ name_text (codes "_a$9") ∷ name_text (codes "é") ∷ name_text (codes "steps") ∷ [])
     ≡ codes "s1" ∷ codes "_a$9" ∷ codes "é" ∷ codes "steps" ∷ []
-unfolding name_text is_plain
+unfolding name_text word_of
 plain_names = refl
 
 quoted_names :
     (name_text (codes "s 1") ∷ name_text (codes "9a") ∷ name_text (codes "$") ∷ name_text (codes "step") ∷ name_text (codes "a\"b") ∷ name_text [] ∷ [])
     ≡ codes "\"s 1\"" ∷ codes "\"9a\"" ∷ codes "\"$\"" ∷ codes "\"step\"" ∷ codes "\"a\"\"b\"" ∷ codes "\"\"" ∷ []
-unfolding name_text is_plain
+unfolding name_text word_of
 quoted_names = refl
 
 quoted_in_a_line : blocked_text (codes "s1" ∷ codes "my session" ∷ []) (step 2 (codes "session") []) ≡ codes "step \"session\": not given, session \"my session\" is blocked\n"
-unfolding blocked_text step_text name_text is_plain
+unfolding blocked_text step_text name_text word_of
 quoted_in_a_line = refl
+
+-- ---- the heads of all parts
+
+abbrev whole_spec : Spec
+whole_spec = record {
+  sessions = codes "s1" ∷ codes "s 2" ∷ [];
+  blocks =
+      record { part = parts.Setup; session = 0; name = []; text = codes "BEGIN" }
+      ∷ record { part = parts.Teardown; session = 0; name = []; text = codes "COMMIT" }
+      ∷ record { part = parts.SessionSetup; session = 1; name = []; text = codes "BEGIN" }
+      ∷ record { part = parts.Step; session = 1; name = codes "x"; text = codes "SELEC" }
+      ∷ record { part = parts.SessionTeardown; session = 2; name = []; text = codes "ROLLBACK; BEGIN" }
+      ∷ [];
+  permutations = (3 ∷ []) ∷ [];
+}
+
+all_heads :
+    report whole_spec
+    (run_with setups.Done
+    (entries.Give 0 0 ∷ entries.Done 0 (replies.Tag tags.Begin 0) ∷ entries.End 0
+    ∷ entries.Give 1 2 ∷ entries.Refuse 1 (causes.NotInProfile 0) ∷ entries.End 1
+    ∷ entries.Give 1 3 ∷ entries.Refuse 1 (causes.Syntax 5) ∷ entries.End 1
+    ∷ entries.Give 2 4 ∷ entries.Done 2 (replies.Tag tags.Rollback 0) ∷ entries.Done 2 (replies.Tag tags.Begin 0) ∷ entries.End 2
+    ∷ entries.Close 1 ∷ entries.Close 2
+    ∷ entries.Give 0 1 ∷ entries.Cancel 0 ∷ entries.Refuse 0 (causes.Cancelled 17) ∷ entries.End 0 ∷ entries.Close 0 ∷ []) ∷ [])
+    ≡ codes "Parsed test spec with 2 sessions\n\nstarting permutation: x\nsetup 1\nBEGIN\nsession s1 setup\nERROR: 0A000: not supported at byte 0\nstep x: SELEC\nERROR: 42601: syntax error at byte 5\nsession \"s 2\" teardown\nROLLBACK\nBEGIN\nteardown\nERROR: 57014: cancelled\n"
+unfolding report run_text blocked_text name_text word_of step_text digits
+all_heads = refl
+
+tables_limit : cause_text (causes.Limit limits.Tables 501) ≡ codes "54000: limit of tables passed"
+tables_limit = refl
+
+columns_limit : cause_text (causes.Limit limits.Columns 201) ≡ codes "54000: limit of columns passed"
+columns_limit = refl

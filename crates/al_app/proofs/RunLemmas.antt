@@ -1,100 +1,21 @@
 -- The setup part and the steps of a run.
-use Rattle.std.proofs.Common.{◌≡◌, ℕ, zero, suc, ◌+◌, ◌<◌, ◌≤◌, List, [], ◌∷◌, ◌++◌, length, take, refl, sym, ap, subst, cond, true, false, Bool, Option, Some, None, arith, ◌∙◌, inl, inr, slice_get, option_map, length-append}
+use Rattle.std.proofs.Common.{◌≡◌, ℕ, zero, suc, ◌+◌, ◌<◌, ◌≤◌, List, [], ◌∷◌, ◌++◌, length, drop, refl, sym, ap, subst, cond, true, false, Bool, Option, Some, None, arith, ◌∙◌, inl, inr, slice_get, append_assoc}
 use Rattle.std.specs.Prelude.{◌==◌, ◌≢◌, ◌⊎◌, ◌||◌, eqb, IsSome}
-use Rattle.std.specs.List.{AllByRecursion}
+use Rattle.al_spec.specs.Keeps.{Each}
 use Rattle.std.proofs.lemmas.Bool.{ne_eqb}
 use Rattle.std.proofs.lemmas.Bool.Decides.{eqb_tells}
-use Rattle.std.proofs.lemmas.List.{take_all}
-use Rattle.al_history.specs.declared.entry.Entry.TheVariants.{Give}
-use Rattle.al_spec.specs.declared.spec.Part.{Part}
-use Rattle.al_spec.specs.declared.spec.Part.TheVariants as parts
+use Rattle.al_history.specs.declared.entry.Entry.TheVariants.{Give, Cancel}
 use Rattle.al_spec.specs.declared.spec.Block.{Block}
 use Rattle.al_spec.specs.declared.spec.Spec.{Spec}
-use Rattle.al_history.specs.declared.statement.ScriptBlock.{ScriptBlock}
 use Rattle.al_history.specs.Past.{Past}
 use Rattle.al_history.specs.Hand.{hand, closed}
-use Rattle.al_history.specs.Whole.{is_setup, setup_blocks, session_for, of_setup, failed_setup, gives, next_block, due, AsDue}
-use Rattle.al_app.specs.First.{EachWith}
-use Rattle.al_app.specs.FirstSessions.{HasOneStatement, IsSessionStepAt}
-use Rattle.al_engine.specs.Ran.{Ran, IsSingle}
-use Rattle.al_app.specs.Runs.{IsRunnable, AreOfSetup, failed_by, HasAnyEnded, HasRunBlock, WasCancelled, CancelsIfBusy, IsNoneBusy, SetupSoFar, SetupFailed, SetupGoesOn, StepsSoFar, StepsRan}
-use Rattle.al_app.proofs.DueLemmas.{due_gives, due_cancels, no_more_at_end, no_more_busy}
+use Rattle.al_history.specs.Whole.{is_setup, is_session_teardown, is_teardown, session_for, of_setup, failed_setup, file_sessions, all_sessions, Task, GiveBlock, GiveSteps, CancelIfBusy, CloseSession, give_and_cancel, each_block, each_session, agenda, next_move, left, due}
+use Rattle.al_engine.specs.Ran.{Ran}
+use Rattle.al_spec.specs.Sound.{IsStepAt}
+use Rattle.al_app.specs.Runs.{HasLeft, left_when, tasks_from, after_steps, after_setup, AreOfSetup, failed_by, HasAnyEnded, HasRunBlock, WasCancelled, CancelsIfBusy, IsNoneBusy, HasRunWhole, SetupSoFar, SetupFailed, SetupGoesOn, InSteps, StepsSoFar, StepsRan}
+use Rattle.al_app.proofs.LeftLemmas.{due_is, then_left, left_skips, cancels_none, left_none, drop_at, drop_end, tasks_here, tasks_skip, tasks_end}
+use Rattle.al_app.proofs.SpecLemmas.{session_of_block, of_setup_not, of_setup_is, step_not_setup}
 use Rattle.al_app.proofs.DriveLemmas.{of_setup_later, stays_none}
-
--- a block's script, by its number
-each_at : (blocks : List Block) (scripts : List ScriptBlock) (number : ℕ) (block : Block) → EachWith HasOneStatement blocks scripts → slice_get blocks number ≡ Some block → (script : ScriptBlock) × (slice_get scripts number ≡ Some script) × HasOneStatement block script
-each_at [] scripts number block each is = absurd cc
-each_at (b ∷ blocks) [] number block each is = absurd each
-each_at (b ∷ blocks) (s ∷ scripts) zero block each is = let e : b ≡ block = cc in (s, refl, subst (λ (x : Block). HasOneStatement x s) e each.0)
-each_at (b ∷ blocks) (s ∷ scripts) (suc number) block each is = each_at blocks scripts number block each.1 is
-
--- a block of the spec may be given to its session
-pub of_session_at : (spec : Spec) (ran : Ran) (number : ℕ) (block : Block) → IsRunnable spec ran.terms.scripts → slice_get spec.blocks number ≡ Some block → option_map (λ (b : ScriptBlock). b.session) (slice_get ran.terms.scripts.blocks number) ≡ Some block.session
-of_session_at spec ran number block runnable is =
-    let at = each_at spec.blocks ran.terms.scripts.blocks number block runnable.each is in
-    rw (at.1, at.2.session) refl
-
--- the session of a block is one of the run's
-known_at : (sessions : ℕ) (scripts : List ScriptBlock) (number s : ℕ) → AllByRecursion (IsSingle sessions) scripts → option_map (λ (b : ScriptBlock). b.session) (slice_get scripts number) ≡ Some s → s < sessions
-known_at sessions [] number s all is = absurd cc
-known_at sessions (b ∷ scripts) zero s all is = let e : b.session ≡ s = cc in rw (← e) all.0.known
-known_at sessions (b ∷ scripts) (suc number) s all is = known_at sessions scripts number s all.1 is
-
--- the session of a block of the spec is one of the run's
-pub block_known : (spec : Spec) (ran : Ran) (number : ℕ) (block : Block) → IsRunnable spec ran.terms.scripts → slice_get spec.blocks number ≡ Some block → block.session < ran.terms.scripts.sessions
-block_known spec ran number block runnable is = known_at ran.terms.scripts.sessions ran.terms.scripts.blocks number block.session runnable.single (of_session_at spec ran number block runnable is)
-
--- the session that a block of the spec is given to
-session_of_block : (spec : Spec) (number : ℕ) (block : Block) → slice_get spec.blocks number ≡ Some block → session_for spec number ≡ block.session
-session_of_block spec number block is = rw is refl
-
--- ---- the list of blocks
-
--- one more block
-setup_more : (blocks : List Block) (first count : ℕ) (block : Block) → slice_get blocks count ≡ Some block → setup_blocks first (take (suc count) blocks) ≡ setup_blocks first (take count blocks) ++ cond (is_setup block.part) ((first + count) ∷ []) []
-setup_more [] first count block is = absurd cc
-setup_more (b ∷ blocks) first zero block is = let e : b ≡ block = cc in let n : first + 0 ≡ first = omega arith in rw (e, n) (by_test (is_setup block.part)) where
-  by_test : (t : Bool) → cond t (first ∷ []) [] ≡ cond t (first ∷ []) []
-  by_test t = refl
-setup_more (b ∷ blocks) first (suc count) block is =
-    let more = setup_more blocks (first + 1) count block is in
-    let n : first + 1 + count ≡ first + suc count = omega arith in
-    by_test (is_setup b.part) _ _ _ (more ∙ ap (λ (m : ℕ). setup_blocks (first + 1) (take count blocks) ++ cond (is_setup block.part) (m ∷ []) []) n) where
-      by_test : (t : Bool) (xs ys zs : List ℕ) → xs ≡ ys ++ zs → cond t (first ∷ xs) xs ≡ cond t (first ∷ ys) ys ++ zs
-      by_test true xs ys zs e = ap (λ (l : List ℕ). first ∷ l) e
-      by_test false xs ys zs e = e
-
--- a setup block stands in the list where as many are before it
-setup_at : (blocks : List Block) (steps : List ℕ) (first count : ℕ) (block : Block) → slice_get blocks count ≡ Some block → is_setup block.part ≡ true → slice_get (setup_blocks first blocks ++ steps) (length (setup_blocks first (take count blocks))) ≡ Some (first + count)
-setup_at [] steps first count block is part = absurd cc
-setup_at (b ∷ blocks) steps first zero block is part =
-    let setup : is_setup b.part ≡ true = cc in
-    let n : first + 0 ≡ first = omega arith in
-    rw (setup, n) refl
-setup_at (b ∷ blocks) steps first (suc count) block is part =
-    let n : first + 1 + count ≡ first + suc count = omega arith in
-    by_test (is_setup b.part) _ _ _ (rw n at (setup_at blocks steps (first + 1) count block is part)) where
-      by_test : (t : Bool) (all some : List ℕ) (number : ℕ) → slice_get (all ++ steps) (length some) ≡ Some number → slice_get (cond t (first ∷ all) all ++ steps) (length (cond t (first ∷ some) some)) ≡ Some number
-      by_test true all some number e = e
-      by_test false all some number e = e
-
-setup_fewer : (blocks : List Block) (first count : ℕ) → length (setup_blocks first (take count blocks)) ≤ length (setup_blocks first blocks)
-setup_fewer [] first zero = omega arith
-setup_fewer [] first (suc count) = omega arith
-setup_fewer (b ∷ blocks) first zero = omega arith
-setup_fewer (b ∷ blocks) first (suc count) = by_test (is_setup b.part) _ _ (setup_fewer blocks (first + 1) count) where
-  by_test : (t : Bool) (some all : List ℕ) → length some ≤ length all → length (cond t (first ∷ some) some) ≤ length (cond t (first ∷ all) all)
-  by_test true some all le = omega arith
-  by_test false some all le = le
-
--- how many setup blocks there are among one block more
-setup_count : (blocks : List Block) (count : ℕ) (block : Block) → slice_get blocks count ≡ Some block → length (setup_blocks 0 (take (count + 1) blocks)) ≡ length (setup_blocks 0 (take count blocks)) + cond (is_setup block.part) 1 0
-setup_count blocks count block is =
-    let n : count + 1 ≡ suc count = omega arith in
-    rw (n, setup_more blocks 0 count block is, length-append) (by_test (is_setup block.part)) where
-      by_test : (t : Bool) → length (setup_blocks 0 (take count blocks)) + length (cond t ((0 + count) ∷ []) []) ≡ length (setup_blocks 0 (take count blocks)) + cond t 1 0
-      by_test true = refl
-      by_test false = refl
 
 -- ---- hands after a Give
 
@@ -124,190 +45,190 @@ of_setup_given spec part old session block is all = λ s. by_session s (session 
   by_session s true before = inr is
   by_session s false before = before
 
+-- ---- a block that is run whole
+
+-- after a refusal nothing is left to cancel
+after_refusal : (spec : Spec) (past : Past) (session : ℕ) (tasks : List Task) (part : Option ℕ) → hand past session ≡ None → next_move spec past (left_when spec part true (CancelIfBusy session ∷ tasks)) ≡ next_move spec past (left_when spec part true tasks)
+after_refusal spec past session tasks None none = cancels_none spec past session tasks none
+after_refusal spec past session tasks (Some block) none = refl
+
+module _ (old mid : Ran) (session block : ℕ) (none : IsNoneBusy old.past) where
+  all_given : (spec : Spec) → AreOfSetup spec (of_setup spec (Some block)) (Give session block ∷ old.past)
+  all_given spec = of_setup_given spec (of_setup spec (Some block)) old.past session block refl (λ s. inl (none s))
+
+  module _ (refused : Bool) (did : HasRunBlock old mid session block refused) where
+    others_none : (s : ℕ) → (session ≡ s → ⊥) → hand mid.past s ≡ None
+    others_none = none_besides old.past mid.past session block did.driven.hands none
+
+    all_mid : (spec : Spec) → AreOfSetup spec (of_setup spec (Some block)) mid.past
+    all_mid spec = of_setup_later spec (of_setup spec (Some block)) (Give session block ∷ old.past) mid.past did.driven.hands (all_given spec)
+
+    fails_mid : (spec : Spec) → failed_setup spec mid.past ≡ failed_by (failed_setup spec old.past) (of_setup spec (Some block)) refused
+    fails_mid spec = did.driven.refuses.failed spec (of_setup spec (Some block)) (all_given spec)
+
+    module _ (spec : Spec) (steps : List ℕ) (tasks : List Task) (same : session_for spec block ≡ session) (has : HasLeft spec steps old.past (give_and_cancel spec block ++ tasks)) where
+      given_due : due spec steps old.past ≡ Some (Give session block)
+      given_due = due_is spec steps old.past (give_and_cancel spec block ++ tasks) has (record { entry = Give (session_for spec block) block; then_left = CancelIfBusy (session_for spec block) ∷ tasks }) refl ∙ ap (λ (s : ℕ). Some (Give s block)) same
+
+      given_left : left spec steps (Give session block ∷ old.past) ≡ CancelIfBusy session ∷ tasks
+      given_left = then_left spec steps old.past (give_and_cancel spec block ++ tasks) has (record { entry = Give (session_for spec block) block; then_left = CancelIfBusy (session_for spec block) ∷ tasks }) refl ∙ ap (λ (s : ℕ). CancelIfBusy s ∷ tasks) same
+
+      due_mid : HasLeft spec steps mid.past (left_when spec (of_setup spec (Some block)) refused (CancelIfBusy session ∷ tasks))
+      due_mid = record {
+        as_due = did.driven.quietly.as_due spec steps (given_due, has.as_due);
+        comes_to = ap (next_move spec mid.past) (did.driven.refuses.left_is spec steps (of_setup spec (Some block)) (all_given spec) ∙ ap (left_when spec (of_setup spec (Some block)) refused) given_left);
+      }
+
+  -- the step wasn't refused, and has ended
+  whole_done : HasRunBlock old mid session block false → hand mid.past session ≡ None → HasRunWhole old mid session block false
+  whole_done did own = record {
+    rest = did.rest;
+    terms = did.driven.terms;
+    none_busy = none_with mid.past session (others_none false did) own;
+    closed_same = did.driven.quietly.closed_same;
+    fails = fails_mid false did;
+    goes_on = λ spec steps tasks same has. left_skips spec steps mid.past (CancelIfBusy session ∷ tasks) (due_mid false did spec steps tasks same has) tasks (cancels_none spec mid.past session tasks own);
+  }
+
+  -- the step was refused
+  whole_refused : HasRunBlock old mid session block true → HasRunWhole old mid session block true
+  whole_refused did =
+      let own = only_ended old.past mid.past session block none (did.driven.any_ended refl) in
+      record {
+        rest = did.rest;
+        terms = did.driven.terms;
+        none_busy = none_with mid.past session (others_none true did) own;
+        closed_same = did.driven.quietly.closed_same;
+        fails = fails_mid true did;
+        goes_on = λ spec steps tasks same has. left_skips spec steps mid.past _ (due_mid true did spec steps tasks same has) (left_when spec (of_setup spec (Some block)) true tasks) (after_refusal spec mid.past session tasks (of_setup spec (Some block)) own);
+      }
+
+  -- the step waits, and was cancelled
+  whole_cancelled : (new : Ran) → HasRunBlock old mid session block false → WasCancelled mid new session → HasRunWhole old new session block true
+  whole_cancelled new did cancel = record {
+    rest = cancel.rest;
+    terms = cancel.terms ∙ did.driven.terms;
+    none_busy = none_with new.past session (λ s apart. stays_none (hand mid.past s) (hand new.past s) (cancel.hands s) (others_none false did s apart)) cancel.own;
+    closed_same = λ s. cancel.closed_same s ∙ did.driven.quietly.closed_same s;
+    fails = λ spec. cancel.failed spec (of_setup spec (Some block)) (all_mid false did spec) ∙ rw (fails_mid false did spec) refl;
+    goes_on = λ spec steps tasks same has. cancel.goes_on spec steps (of_setup spec (Some block)) tasks (all_mid false did spec) (due_mid false did spec steps tasks same has);
+  }
+
+  pub has_run_whole : (new : Ran) (refused cancelled : Bool) → HasRunBlock old mid session block refused → CancelsIfBusy mid new session cancelled → HasRunWhole old new session block (refused || cancelled)
+  has_run_whole new true true did cancel =
+      let gone = (whole_refused did).none_busy session in
+      let busy = rw gone at cancel.in_step in
+      absurd cc
+  has_run_whole new true false did unchanged = subst (λ (ran : Ran). HasRunWhole old ran session block true) (sym unchanged.same) (whole_refused did)
+  has_run_whole new false true did cancel = whole_cancelled new did cancel
+  has_run_whole new false false did unchanged = subst (λ (ran : Ran). HasRunWhole old ran session block false) (sym unchanged.same) (whole_done did unchanged.none)
+
 -- ---- the setup part
+
+six : (a b c d e f : List Task) → a ++ b ++ c ++ d ++ e ++ f ≡ a ++ (b ++ (c ++ (d ++ (e ++ f))))
+six a b c d e f = append_assoc (a ++ b ++ c ++ d) e f ∙ append_assoc (a ++ b ++ c) d (e ++ f) ∙ append_assoc (a ++ b) c (d ++ (e ++ f)) ∙ append_assoc a b (c ++ (d ++ (e ++ f)))
+
+agenda_is : (spec : Spec) (steps : List ℕ) → agenda spec steps ≡ tasks_from spec is_setup 0 ++ after_setup spec steps
+agenda_is spec steps = six (each_block spec is_setup) (GiveSteps steps ∷ each_session CancelIfBusy (all_sessions spec)) (each_block spec is_session_teardown) (each_session CloseSession (file_sessions spec)) (each_block spec is_teardown) (CloseSession 0 ∷ [])
 
 pub setup_begins : (spec : Spec) (ran : Ran) → ran.past ≡ [] → SetupSoFar spec ran 0
 setup_begins spec ran none = record {
   rest = record { legal = rw none tt; in_turn = rw none tt; idle = rw none (λ s. refl) };
-  as_due = λ steps. rw none tt;
   none_busy = rw none (λ s. refl);
   any_open = rw none (λ s. refl);
   failed = rw none refl;
-  gave = rw none refl;
-  goes_on = rw none refl;
+  has_left = λ steps. rw none (record { as_due = tt; comes_to = ap (next_move spec []) (agenda_is spec steps) });
 }
 
-module _ (spec : Spec) (old : Ran) (number : ℕ) (block : Block) (is : slice_get spec.blocks number ≡ Some block) (so_far : SetupSoFar spec old number) where
+module _ (spec : Spec) (old : Ran) (number : ℕ) (block : Block) (there : slice_get spec.blocks number ≡ Some block) (so_far : SetupSoFar spec old number) where
   -- a block of another part
-  pub setup_skips : block.part ≡ parts.Step → SetupSoFar spec old (number + 1)
-  setup_skips part =
-      let setup : is_setup block.part ≡ false = rw part refl in
-      record {
-        rest = so_far.rest;
-        as_due = so_far.as_due;
-        none_busy = so_far.none_busy;
-        any_open = so_far.any_open;
-        failed = so_far.failed;
-        gave = so_far.gave ∙ sym (setup_count spec.blocks number block is ∙ rw setup (omega arith));
-        goes_on = so_far.goes_on;
-      }
+  pub setup_skips : is_setup block.part ≡ false → SetupSoFar spec old (number + 1)
+  setup_skips part = record {
+    rest = so_far.rest;
+    none_busy = so_far.none_busy;
+    any_open = so_far.any_open;
+    failed = so_far.failed;
+    has_left = λ steps. subst (λ (ts : List Task). HasLeft spec steps old.past (ts ++ after_setup spec steps)) (tasks_skip spec is_setup number block there part) (so_far.has_left steps);
+  }
 
   module _ (setup : is_setup block.part ≡ true) where
-    of_this : of_setup spec (Some number) ≡ Some number
-    of_this = rw (is, setup) refl
+    left_here : (steps : List ℕ) → HasLeft spec steps old.past (give_and_cancel spec number ++ (tasks_from spec is_setup (number + 1) ++ after_setup spec steps))
+    left_here steps = subst (λ (ts : List Task). HasLeft spec steps old.past (ts ++ after_setup spec steps)) (tasks_here spec is_setup number block there setup) (so_far.has_left steps)
 
-    all_of_this : AreOfSetup spec (Some number) (Give block.session number ∷ old.past)
-    all_of_this = of_setup_given spec (Some number) old.past block.session number of_this (λ s. inl (so_far.none_busy s))
-
-    due_block : (steps : List ℕ) → due spec steps old.past ≡ Some (Give block.session number)
-    due_block steps =
-        let same = session_of_block spec number block is in
-        let zero_more : 0 + number ≡ number = omega arith in
-        let next : next_block spec steps old.past ≡ Some number = rw (so_far.gave, setup_at spec.blocks steps 0 number block is setup, zero_more) refl in
-        rw same at (due_gives spec steps old.past number so_far.failed (inl so_far.none_busy) so_far.goes_on (so_far.none_busy (session_for spec number)) next)
-
-    -- the block was given and the run driven
-    module _ (mid : Ran) (refused : Bool) (did : HasRunBlock old mid block.session number refused) where
-      block_as_due : (steps : List ℕ) → AsDue spec steps mid.past
-      block_as_due steps = did.driven.quietly.as_due spec steps (due_block steps, so_far.as_due steps)
-
-      block_open : (s : ℕ) → closed mid.past s ≡ false
-      block_open s = did.driven.quietly.closed_same s ∙ so_far.any_open s
-
-      block_failed : failed_setup spec mid.past ≡ failed_by None (Some number) refused
-      block_failed = did.driven.failed spec (Some number) all_of_this ∙ ap (λ (failed : Option ℕ). failed_by failed (Some number) refused) so_far.failed
-
-      block_others : (s : ℕ) → (block.session ≡ s → ⊥) → hand mid.past s ≡ None
-      block_others = none_besides old.past mid.past block.session number did.driven.hands so_far.none_busy
-
-      block_gave : gives mid.past ≡ length (setup_blocks 0 (take (number + 1) spec.blocks))
-      block_gave = did.driven.quietly.gives_same ∙ ap (λ (n : ℕ). n + 1) so_far.gave ∙ sym (setup_count spec.blocks number block is ∙ rw setup refl)
-
-    -- the block was refused
-    setup_refused : (mid : Ran) → HasRunBlock old mid block.session number true → SetupFailed spec mid number
-    setup_refused mid did = record {
+    pub setup_goes_on : (new : Ran) (failed : Bool) → HasRunWhole old new block.session number failed → SetupGoesOn spec new number failed
+    setup_goes_on new true did = record {
       rest = did.rest;
-      as_due = block_as_due mid true did;
-      none_busy = none_with mid.past block.session (block_others mid true did) (only_ended old.past mid.past block.session number so_far.none_busy (did.driven.any_ended refl));
-      any_open = block_open mid true did;
-      failed = block_failed mid true did;
+      none_busy = did.none_busy;
+      any_open = λ s. did.closed_same s ∙ so_far.any_open s;
+      failed = did.fails spec ∙ rw (so_far.failed, of_setup_is spec number block there setup) refl;
+      has_left = λ steps. subst (λ (part : Option ℕ). HasLeft spec steps new.past (left_when spec part true (tasks_from spec is_setup (number + 1) ++ after_setup spec steps))) (of_setup_is spec number block there setup) (did.goes_on spec steps _ (session_of_block spec number block there) (left_here steps));
     }
-
-    -- the block was done
-    setup_done : (mid : Ran) → HasRunBlock old mid block.session number false → hand mid.past block.session ≡ None → SetupSoFar spec mid (number + 1)
-    setup_done mid did none = record {
+    setup_goes_on new false did = record {
       rest = did.rest;
-      as_due = block_as_due mid false did;
-      none_busy = none_with mid.past block.session (block_others mid false did) none;
-      any_open = block_open mid false did;
-      failed = block_failed mid false did;
-      gave = block_gave mid false did;
-      goes_on = did.driven.quietly.ended_same ∙ so_far.goes_on;
+      none_busy = did.none_busy;
+      any_open = λ s. did.closed_same s ∙ so_far.any_open s;
+      failed = did.fails spec ∙ so_far.failed;
+      has_left = λ steps. did.goes_on spec steps _ (session_of_block spec number block there) (left_here steps);
     }
-
-    -- the block waits, and was cancelled
-    setup_cancelled : (mid new : Ran) → block.session ≤ length spec.sessions → HasRunBlock old mid block.session number false → WasCancelled mid new block.session → SetupFailed spec new number
-    setup_cancelled mid new known did cancel =
-        let few : gives mid.past ≤ length (setup_blocks 0 spec.blocks) = omega (arith, block_gave mid false did, setup_fewer spec.blocks 0 (number + 1)) in
-        let mid_failed : failed_setup spec mid.past ≡ None = block_failed mid false did in
-        let others = block_others mid false did in
-        record {
-          rest = cancel.rest;
-          as_due = λ steps. cancel.as_due spec steps (due_cancels spec steps mid.past block.session mid_failed (inl few) known (λ r lt. others r (λ e. omega arith)) cancel.in_step) (block_as_due mid false did steps);
-          none_busy = none_with new.past block.session (λ s apart. stays_none (hand mid.past s) (hand new.past s) (cancel.hands s) (others s apart)) cancel.own;
-          any_open = λ s. cancel.closed_same s ∙ block_open mid false did s;
-          failed = cancel.failed spec (Some number) (of_setup_later spec (Some number) (Give block.session number ∷ old.past) mid.past did.driven.hands all_of_this) ∙ rw mid_failed refl;
-        }
-
-    -- the block was given, the run driven, and the step cancelled if it still waited
-    pub setup_goes_on : (mid new : Ran) (refused cancelled : Bool) → block.session ≤ length spec.sessions → HasRunBlock old mid block.session number refused → CancelsIfBusy mid new block.session cancelled → SetupGoesOn spec new number (refused || cancelled)
-    setup_goes_on mid new true true known did cancel =
-        let gone = (setup_refused mid did).none_busy block.session in
-        let busy = rw gone at cancel.in_step in
-        absurd cc
-    setup_goes_on mid new true false known did left = subst (λ (ran : Ran). SetupFailed spec ran number) (sym left.same) (setup_refused mid did)
-    setup_goes_on mid new false true known did cancel = setup_cancelled mid new known did cancel
-    setup_goes_on mid new false false known did left = subst (λ (ran : Ran). SetupSoFar spec ran (number + 1)) (sym left.same) (setup_done mid did left.none)
 
 -- ---- the steps of a permutation
 
--- a step of a permutation
-step_at : (spec : Spec) (steps : List ℕ) (at : ℕ) (step : ℕ) → AllByRecursion (IsSessionStepAt (length spec.sessions) spec.blocks) steps → slice_get steps at ≡ Some step → IsSessionStepAt (length spec.sessions) spec.blocks step
-step_at spec [] at step all is = absurd cc
-step_at spec (n ∷ steps) zero step all is = let e : n ≡ step = cc in subst (λ (m : ℕ). IsSessionStepAt (length spec.sessions) spec.blocks m) e all.0
-step_at spec (n ∷ steps) (suc at) step all is = step_at spec steps at step all.1 is
-
-after_setup : (blocks steps : List ℕ) (at : ℕ) → slice_get (blocks ++ steps) (length blocks + at) ≡ slice_get steps at
-after_setup [] steps at = let n : 0 + at ≡ at = omega arith in rw n refl
-after_setup (b ∷ blocks) steps at = let n : suc (length blocks) + at ≡ suc (length blocks + at) = omega arith in rw n (after_setup blocks steps at)
-
-none_past_end : (steps : List ℕ) (at : ℕ) → length steps ≤ at → slice_get steps at ≡ None
-none_past_end [] at le = refl
-none_past_end (n ∷ steps) zero le = absurd (omega arith)
-none_past_end (n ∷ steps) (suc at) le = none_past_end steps at (omega arith)
-
 pub steps_begin : (spec : Spec) (steps : List ℕ) (ran : Ran) → SetupSoFar spec ran (length spec.blocks) → StepsSoFar spec steps ran 0
 steps_begin spec steps ran done = record {
-  now = record {
-    rest = done.rest;
-    as_due = done.as_due steps;
-    any_open = done.any_open;
-    failed = done.failed;
-    plain = λ s. inl (done.none_busy s);
-    none_beyond = λ s lt. done.none_busy s;
-  };
-  gave = done.gave ∙ rw (take_all (length spec.blocks) spec.blocks (omega arith)) (omega arith);
-  goes_on = done.goes_on;
-  at_start = λ e. done.none_busy;
+  rest = done.rest;
+  any_open = done.any_open;
+  failed = done.failed;
+  plain = λ s. inl (done.none_busy s);
+  none_beyond = λ s lt. done.none_busy s;
+  has_left = subst (λ (ts : List Task). HasLeft spec steps ran.past (ts ++ after_setup spec steps)) (tasks_end spec is_setup (length spec.blocks) (omega arith)) (done.has_left steps);
+}
+
+with_left : (spec : Spec) (steps : List ℕ) (ran : Ran) (tasks others : List Task) → InSteps spec steps ran tasks → next_move spec ran.past tasks ≡ next_move spec ran.past others → InSteps spec steps ran others
+with_left spec steps ran tasks others now same = record {
+  rest = now.rest;
+  any_open = now.any_open;
+  failed = now.failed;
+  plain = now.plain;
+  none_beyond = now.none_beyond;
+  has_left = left_skips spec steps ran.past tasks now.has_left others same;
 }
 
 module _ (spec : Spec) (steps : List ℕ) (old : Ran) (at : ℕ) (so_far : StepsSoFar spec steps old at) where
-  next_is : next_block spec steps old.past ≡ slice_get steps at
-  next_is = ap (slice_get (setup_blocks 0 spec.blocks ++ steps)) so_far.gave ∙ after_setup (setup_blocks 0 spec.blocks) steps at
-
   pub steps_end : length steps ≤ at → StepsRan spec steps old
-  steps_end le = record { now = so_far.now; no_more = no_more_at_end spec steps old.past (next_is ∙ none_past_end steps at le) }
+  steps_end le = with_left spec steps old (GiveSteps (drop at steps) ∷ after_steps spec) (after_steps spec) so_far (rw (drop_end steps at le) refl)
 
   module _ (step : ℕ) (block : Block) (is : slice_get steps at ≡ Some step) (there : slice_get spec.blocks step ≡ Some block) where
+    next_is : GiveSteps (drop at steps) ∷ after_steps spec ≡ GiveSteps (step ∷ drop (at + 1) steps) ∷ after_steps spec
+    next_is = ap (λ (ns : List ℕ). GiveSteps ns ∷ after_steps spec) (drop_at steps at step is)
+
+    now_next : InSteps spec steps old (GiveSteps (step ∷ drop (at + 1) steps) ∷ after_steps spec)
+    now_next = subst (InSteps spec steps old) next_is so_far
+
     -- the step's session is busy
     pub steps_stop : IsSome (hand old.past block.session) → StepsRan spec steps old
-    steps_stop busy = record { now = so_far.now; no_more = no_more_busy spec steps old.past step (next_is ∙ is) (rw (session_of_block spec step block there) busy) }
-
-    none_or_more : IsNoneBusy old.past ⊎ (length (setup_blocks 0 spec.blocks) < gives old.past)
-    none_or_more = by_count at so_far.at_start so_far.gave where
-      by_count : (count : ℕ) → (count ≡ 0 → IsNoneBusy old.past) → gives old.past ≡ length (setup_blocks 0 spec.blocks) + count → IsNoneBusy old.past ⊎ (length (setup_blocks 0 spec.blocks) < gives old.past)
-      by_count zero start gave = inl (start refl)
-      by_count (suc count) start gave = inr (omega arith)
-
-    due_step : hand old.past block.session ≡ None → due spec steps old.past ≡ Some (Give block.session step)
-    due_step idle =
-        let same = session_of_block spec step block there in
-        rw same at (due_gives spec steps old.past step so_far.now.failed none_or_more so_far.goes_on (rw same idle) (next_is ∙ is))
+    steps_stop busy = with_left spec steps old _ (after_steps spec) now_next (rw (session_of_block spec step block there, busy) refl)
 
     -- the step was given and the run driven
-    pub steps_go_on : (new : Ran) (refused : Bool) → AllByRecursion (IsSessionStepAt (length spec.sessions) spec.blocks) steps → block.session ≤ length spec.sessions → HasRunBlock old new block.session step refused → StepsSoFar spec steps new (at + 1)
+    pub steps_go_on : (new : Ran) (refused : Bool) → Each (IsStepAt spec.blocks) steps → block.session ≤ length spec.sessions → HasRunBlock old new block.session step refused → StepsSoFar spec steps new (at + 1)
     steps_go_on new refused all known did =
-        let named = step_at spec steps at step all is in
-        let same : named.block ≡ block = let e : Some named.block ≡ Some block = sym named.there ∙ there in cc in
-        let part : is_setup block.part ≡ false = not_setup block.part (subst (λ (b : Block). b.part ≡ parts.Step) same named.step.part) in
-        let none_of_setup : of_setup spec (Some step) ≡ None = rw (there, part) refl in
-        let plain_given = of_setup_given spec None old.past block.session step none_of_setup so_far.now.plain in
+        let session = session_of_block spec step block there in
+        let none_of_setup = step_not_setup spec steps at step block all is there in
+        let plain_given = of_setup_given spec None old.past block.session step none_of_setup so_far.plain in
+        let has = now_next.has_left in
+        let move : next_move spec old.past (GiveSteps (step ∷ drop (at + 1) steps) ∷ after_steps spec) ≡ Some (record { entry = Give block.session step; then_left = GiveSteps (drop (at + 1) steps) ∷ after_steps spec }) = rw (session, did.idle) refl in
+        let due_so = due_is spec steps old.past _ has _ move in
+        let rest_left = then_left spec steps old.past _ has _ move in
         record {
-          now = record {
-            rest = did.rest;
-            as_due = did.driven.quietly.as_due spec steps (due_step did.idle, so_far.now.as_due);
-            any_open = λ s. did.driven.quietly.closed_same s ∙ so_far.now.any_open s;
-            failed = did.driven.failed spec None plain_given ∙ rw so_far.now.failed (by_refused refused);
-            plain = of_setup_later spec None (Give block.session step ∷ old.past) new.past did.driven.hands plain_given;
-            none_beyond = λ s lt. stays_none (hand (Give block.session step ∷ old.past) s) (hand new.past s) (did.driven.hands s) (none_but_given old.past block.session step s (ne_eqb block.session s (λ e. omega arith)) (so_far.now.none_beyond s lt));
+          rest = did.rest;
+          any_open = λ s. did.driven.quietly.closed_same s ∙ so_far.any_open s;
+          failed = did.driven.refuses.failed spec None plain_given ∙ rw so_far.failed (by_refused refused);
+          plain = of_setup_later spec None (Give block.session step ∷ old.past) new.past did.driven.hands plain_given;
+          none_beyond = λ s lt. stays_none (hand (Give block.session step ∷ old.past) s) (hand new.past s) (did.driven.hands s) (none_but_given old.past block.session step s (ne_eqb block.session s (λ e. omega arith)) (so_far.none_beyond s lt));
+          has_left = record {
+            as_due = did.driven.quietly.as_due spec steps (due_so, has.as_due);
+            comes_to = ap (next_move spec new.past) (did.driven.refuses.left_is spec steps None plain_given ∙ left_none spec refused _ ∙ rest_left);
           };
-          gave = did.driven.quietly.gives_same ∙ let before = so_far.gave in omega arith;
-          goes_on = did.driven.quietly.ended_same ∙ so_far.goes_on;
-          at_start = λ e. absurd (omega arith);
         } where
-          not_setup : (part : Part) → part ≡ parts.Step → is_setup part ≡ false
-          not_setup part e = rw e refl
-
           by_refused : (refused : Bool) → failed_by None None refused ≡ None
           by_refused true = refl
           by_refused false = refl

@@ -1,12 +1,7 @@
+pub mod Scripts
 pub mod Runs
-pub mod FirstSteps
-pub mod FirstOutside
-pub mod FirstInside
-pub mod First
-pub mod FirstShape
-pub mod FirstSessions
-pub mod FirstReading
 pub mod Report
 pub mod Numbers
 pub mod Answers
 pub mod Top
+pub mod Words

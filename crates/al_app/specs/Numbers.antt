@@ -10,4 +10,5 @@ number_of (statuses.Usage word) = 2
 number_of statuses.ReadFault = 3
 number_of statuses.WriteFault = 4
 number_of statuses.NoMemory = 5
+number_of statuses.TooLong = 6
 number_of (statuses.SetupFailed run) = 7

@@ -1,6 +1,5 @@
 -- The report of a call's runs, as bytes (src/test/isolation/README for its lines).
 use Rattle.std.specs.Prelude.{ℕ, ◌+◌, ◌-◌, ◌==◌, nat_le, Bool, true, false, not, ◌&&◌, ◌||◌, if◌then◌else◌, List, [], ◌∷◌, ◌++◌, length, take, drop, reverse, Option, Some, None, slice_get, codes, decimal, flat_map}
-use Rattle.std.specs.Char.{is_ascii_alphabetic, is_ascii_digit}
 use Rattle.std.specs.List.{concat, join_by, range_with_len, count_by, list_all}
 use Rattle.std.specs.Option.{option_map_or}
 use Rattle.std.specs.Str.{bytes_eq}
@@ -23,28 +22,10 @@ use Rattle.al_spec.specs.declared.spec.Block.{Block}
 use Rattle.al_spec.specs.declared.spec.Part.{Part}
 use Rattle.al_spec.specs.declared.spec.Part.TheVariants as parts
 use Rattle.al_spec.specs.declared.spec.Spec.{Spec}
+use Rattle.al_spec.specs.Tokens.{is_plain}
 use Rattle.al_history.specs.Past.{Past}
 
 -- ---- names of sessions and steps
-
--- a letter, `_`, or a byte past ASCII begins a plain name; digits and `$` go on in it too
-abbrev pub begins_plain : ℕ → Bool
-begins_plain b = is_ascii_alphabetic b || (b == 95 || nat_le 128 b)
-
-abbrev pub in_plain : ℕ → Bool
-in_plain b = begins_plain b || (is_ascii_digit b || b == 36)
-
--- the words of spec files
-abbrev pub is_word : List ℕ → Bool
-is_word name =
-    bytes_eq name (codes "setup")
-    || (bytes_eq name (codes "teardown")
-    || (bytes_eq name (codes "session") || (bytes_eq name (codes "step") || bytes_eq name (codes "permutation"))))
-
--- whether a name stands in a spec file without quotes
-unfoldable pub is_plain : List ℕ → Bool
-is_plain [] = false
-is_plain (b ∷ bs) = begins_plain b && (list_all in_plain bs && not (is_word (b ∷ bs)))
 
 abbrev pub doubled : ℕ → List ℕ
 doubled b = if b == 34 then codes "\"\"" else b ∷ []
@@ -64,12 +45,23 @@ abbrev pub many_values_text : ℕ → ℕ → List ℕ
 many_values_text want got =
     concat (codes "42601: INSERT has " ∷ decimal got ∷ codes " values for " ∷ decimal want ∷ codes " columns" ∷ [])
 
+-- why a block that is no script is refused
+abbrev pub syntax_text : ℕ → List ℕ
+syntax_text at = concat (codes "42601: syntax error at byte " ∷ decimal at ∷ [])
+
+abbrev pub not_built_text : ℕ → List ℕ
+not_built_text at = concat (codes "0A000: not supported at byte " ∷ decimal at ∷ [])
+
 -- what a run has a limit of
 abbrev pub limit_name : RunLimit → List ℕ
+limit_name limits.Tables = codes "tables"
+limit_name limits.Columns = codes "columns"
 limit_name limits.Journal = codes "journal"
 
 -- why a statement is refused: its SQLSTATE, and what is missing or in the way
 abbrev pub cause_text : Cause → List ℕ
+cause_text (causes.Syntax at) = syntax_text at
+cause_text (causes.NotInProfile at) = not_built_text at
 cause_text (causes.NoTable name) = concat (codes "42P01: table \"" ∷ name ∷ codes "\" does not exist" ∷ [])
 cause_text (causes.TwiceTable name) = concat (codes "42P07: table \"" ∷ name ∷ codes "\" already exists" ∷ [])
 cause_text (causes.TwiceColumn name) = concat (codes "42701: column \"" ∷ name ∷ codes "\" already exists" ∷ [])
@@ -151,10 +143,11 @@ ends_in_part session [] = false
 ends_in_part session (e ∷ later) =
     if is_drivers e then false else if is_end session e then true else ends_in_part session later
 
--- whether a block is told as waiting: a step that doesn't end within its part. The replies of a setup block are told with it.
+-- whether a block is told as waiting: a step that doesn't end within its part. The replies of setup and teardown blocks are told with
+-- them.
 abbrev pub waits : Part → ℕ → List Entry → Bool
-waits parts.Setup session later = false
 waits parts.Step session later = not (ends_in_part session later)
+waits part session later = false
 
 -- the place of the Give of the step that a session has in hand
 abbrev pub given_at : Past → ℕ → Option ℕ
@@ -168,14 +161,25 @@ given_at (e ∷ past) session =
 unfoldable pub step_text : Block → List ℕ
 step_text block = codes "step " ++ name_text block.name
 
--- the head of a block, by where it stands: a setup block's number from 1, a step's name and text
-abbrev pub head_by : Part → ℕ → Block → List ℕ
-head_by parts.Setup number block = codes "setup " ++ decimal (number + 1)
-head_by parts.Step number block = step_text block ++ (codes ": " ++ block.text)
+-- the name of a session of the file, which count from 1
+abbrev pub session_name : List (List ℕ) → ℕ → List ℕ
+session_name sessions session = if session == 0 then [] else text_at name_text sessions (session - 1)
 
--- the head of the block with this number, which counts from 0
-abbrev pub head_text : ℕ → Block → List ℕ
-head_text number block = head_by block.part number block
+-- the session of a block
+abbrev pub session_text : Spec → Block → List ℕ
+session_text spec block = codes "session " ++ session_name spec.sessions block.session
+
+-- the head of a block, by where it stands: a main setup block's number from 1, a session's name, a step's name and text
+abbrev pub head_by : Part → Spec → ℕ → Block → List ℕ
+head_by parts.Setup spec number block = codes "setup " ++ decimal (number + 1)
+head_by parts.SessionSetup spec number block = session_text spec block ++ codes " setup"
+head_by parts.Step spec number block = step_text block ++ (codes ": " ++ block.text)
+head_by parts.SessionTeardown spec number block = session_text spec block ++ codes " teardown"
+head_by parts.Teardown spec number block = codes "teardown"
+
+-- the head of a block with this number, which counts from 0
+abbrev pub head_text : Spec → ℕ → Block → List ℕ
+head_text spec number block = head_by block.part spec number block
 
 -- what stands behind the head, by whether the block waits
 abbrev pub behind_head : Bool → List ℕ → List ℕ
@@ -183,9 +187,9 @@ behind_head true replies = codes " <waiting ...>\n"
 behind_head false replies = codes "\n" ++ replies
 
 -- a block where it is given, by the entries after its Give
-abbrev pub given_text : List Entry → ℕ → List Entry → ℕ → Block → List ℕ
-given_text journal session later number block =
-    head_text number block ++ behind_head (waits block.part session later) (replies_text journal session later)
+abbrev pub given_text : Spec → List Entry → ℕ → List Entry → ℕ → Block → List ℕ
+given_text spec journal session later number block =
+    head_text spec number block ++ behind_head (waits block.part session later) (replies_text journal session later)
 
 -- a block where it ends, by the entries after its Give: a step that was told as waiting is completed
 abbrev pub completed_text : List Entry → ℕ → List Entry → Block → List ℕ
@@ -202,24 +206,24 @@ end_text blocks journal place _ = []
 
 -- An entry at its place. A block is told where it is given, and once more where it ends if it was waiting; so each part
 -- of the journal begins with its own block, and those that end in it follow in the order of their Ends.
-abbrev pub entry_text : List Block → List Entry → ℕ → Entry → List ℕ
-entry_text blocks journal place (entries.Give session block) =
-    text_at (given_text journal session (drop (place + 1) journal) block) blocks block
-entry_text blocks journal place (entries.End session) =
-    option_map_or (λ given. text_at (end_text blocks journal given) journal given) (given_at (reverse (take place journal)) session) []
-entry_text blocks journal place _ = []
+abbrev pub entry_text : Spec → List Entry → ℕ → Entry → List ℕ
+entry_text spec journal place (entries.Give session block) =
+    text_at (given_text spec journal session (drop (place + 1) journal) block) spec.blocks block
+entry_text spec journal place (entries.End session) =
+    option_map_or (λ given. text_at (end_text spec.blocks journal given) journal given) (given_at (reverse (take place journal)) session) []
+entry_text spec journal place _ = []
 
 -- the entry at a place
-abbrev pub place_text : List Block → List Entry → ℕ → List ℕ
-place_text blocks journal place = text_at (entry_text blocks journal place) journal place
+abbrev pub place_text : Spec → List Entry → ℕ → List ℕ
+place_text spec journal place = text_at (entry_text spec journal place) journal place
 
 -- the entries from a place up to another
-abbrev pub entries_text : List Block → List Entry → ℕ → ℕ → List ℕ
-entries_text blocks journal from to = flat_map (place_text blocks journal) (range_with_len from (to - from))
+abbrev pub entries_text : Spec → List Entry → ℕ → ℕ → List ℕ
+entries_text spec journal from to = flat_map (place_text spec journal) (range_with_len from (to - from))
 
 -- ---- the step that wasn't given
 
--- the place of the driver's first Cancel or Close: steps are given before it alone
+-- the place of the driver's first Cancel or Close: where a step isn't given, all that were given stand before it
 abbrev pub giving_end : List Entry → ℕ
 giving_end [] = 0
 giving_end (entries.Cancel session ∷ later) = 0
@@ -227,17 +231,13 @@ giving_end (entries.Close session ∷ later) = 0
 giving_end (e ∷ later) = giving_end later + 1
 
 abbrev pub is_step : Part → Bool
-is_step parts.Setup = false
 is_step parts.Step = true
+is_step part = false
 
 -- whether an entry gives a step
 abbrev pub gives_step : List Block → Entry → Bool
 gives_step blocks (entries.Give session block) = option_map_or (λ (given : Block). is_step given.part) (slice_get blocks block) false
 gives_step blocks _ = false
-
--- the name of a session of the file, which count from 1
-abbrev pub session_name : List (List ℕ) → ℕ → List ℕ
-session_name sessions session = if session == 0 then [] else text_at name_text sessions (session - 1)
 
 -- a step whose session is busy
 unfoldable pub blocked_text : List (List ℕ) → Block → List ℕ
@@ -258,9 +258,9 @@ not_given_text spec number (setups.Failed block) journal = []
 -- the journal of a run: what came while steps were given, the step that wasn't given, and what came after
 abbrev pub journal_text : Spec → ℕ → Setup → List Entry → List ℕ
 journal_text spec number setup journal =
-    entries_text spec.blocks journal 0 (giving_end journal) ++
+    entries_text spec journal 0 (giving_end journal) ++
     (not_given_text spec number setup journal ++
-    entries_text spec.blocks journal (giving_end journal) (length journal))
+    entries_text spec journal (giving_end journal) (length journal))
 
 -- ---- whole runs
 

@@ -1,14 +1,16 @@
 //! The top calls.
-ghost use Rattle.std.specs.Prelude.{◌≡◌, [], map};
+ghost use Rattle.std.specs.Prelude.{◌≡◌, [], map, IfOk, string_bytes};
 ghost use Rattle.al_outside.specs.Faults.{Rose};
 ghost use Rattle.al_outside.specs.Holding.{Grows, GrowsByFront};
-ghost use Rattle.al_app.specs.Answers.{bad_word, fault_line, failed_first, status_of, IsConcluded, IsAnswer, IsReadFor, AreLegal, IsComplete};
+ghost use Rattle.al_outside.specs.Reading.{IsReadUpTo};
+ghost use Rattle.al_app.specs.declared.status.Status.TheVariants as statuses;
+ghost use Rattle.al_app.specs.Answers.{most_bytes, usage_line, bad_word, limit_word, fault_line, failed_first, status_of, IsConcluded, IsTold, IsAnswer, IsReadFor, AreLegal, IsComplete};
 
 use crate::status::{Answer, Status};
 use crate::top::{Performed, Stop, failed_first, perform};
-use al_history::{RunList, SpecFault};
+use al_history::{RunList, SpecFault, SpecLimit};
 use al_outside::{Gate, Sink, Source, write_all};
-use al_values::Word;
+use al_values::{NoMemory, Word};
 use std::alloc::Global;
 use std::sync::Wait;
 use std::thread::Threads;
@@ -16,7 +18,7 @@ use std::thread::Threads;
 const USAGE: &str =
     "usage: alterlive run [--brief] | race [--brief] | plan | load NUMBER [--rows ROWS]\n";
 
-const NOT_YET: &str = "spec fault: not yet\n";
+const LONG: &str = "input too long\n";
 
 /// The number of the first word that isn't of the grammar.
 fn bad_word(words: &[Word]) -> Option<u32>
@@ -40,10 +42,43 @@ fn conclude<K: Sink>(sink: &mut K, wanted: Status, text: &[u8]) -> Status
     }
 }
 
+/// The status of words that are no text.
+pub fn refuse_words<K: Sink>(sink: &mut K) -> Status
+    ensures { IsConcluded (statuses.Usage 0) (Rose (K.faults sink.old) (K.faults sink.new)) (K.held sink.old) (K.held sink.new) usage_line result }
+{
+    conclude(sink, Status::Usage { word: 0 }, USAGE.as_bytes())
+}
+/// The answer to these words.
+fn answer_words<S: Source, K: Sink>(
+    alloc: Global,
+    words: &[Word],
+    source: &mut S,
+    sink: &mut K,
+) -> Answer
+    ensures answer { IsAnswer words.now (S.left source.old) (S.left source.new) (Rose (S.faults source.old) (S.faults source.new)) (Rose (K.faults sink.old) (K.faults sink.new)) (K.held sink.old) (K.held sink.new) result.runs result.status }
+    ensures read { IsReadFor (S.left source.old) (S.left source.new) result.status }
+    ensures up_to { IsReadUpTo most_bytes (S.left source.old) (S.left source.new) }
+    ensures legal { AreLegal result.runs }
+{
+    if let Some(word) = bad_word(words) {
+        let status = conclude(sink, Status::Usage { word }, USAGE.as_bytes());
+        return without_runs(alloc, status);
+    }
+    match perform(alloc, source) {
+        Ok(performed) => report_runs(sink, performed),
+        Err(Stop::Spec(fault)) => report_fault(alloc, sink, fault),
+        Err(Stop::TooLong) => {
+            let status = conclude(sink, Status::TooLong, LONG.as_bytes());
+            without_runs(alloc, status)
+        }
+        Err(Stop::Fault) => without_runs(alloc, Status::ReadFault),
+        Err(Stop::NoMemory) => without_runs(alloc, Status::NoMemory),
+    }
+}
 /// `alterlive` in a process that starts no thread: the words `race` and its options are none of its grammar.
 ///
 /// It always returns. The status says how the call ended, and the sink's new bytes are the report for `Done` and
-/// `SetupFailed`, one line for `Usage` and `SpecFault`, a front of what would have been written for `WriteFault`, and
+/// `SetupFailed`, one line for `Usage`, `SpecFault` and `TooLong`, a front of what would have been written for `WriteFault`, and
 /// nothing for `ReadFault` and `NoMemory`.
 pub fn answer_alone<S: Source, K: Sink>(
     alloc: Global,
@@ -55,26 +90,15 @@ pub fn answer_alone<S: Source, K: Sink>(
     ensures answer { IsAnswer words.now (S.left source.old) (S.left source.new) (Rose (S.faults source.old) (S.faults source.new)) (Rose (K.faults sink.old) (K.faults sink.new)) (K.held sink.old) (K.held sink.new) result.runs result.status }
     // Where the input was read.
     ensures read { IsReadFor (S.left source.old) (S.left source.new) result.status }
+    // Past the most bytes of a spec file no more than one buffer is read.
+    ensures up_to { IsReadUpTo most_bytes (S.left source.old) (S.left source.new) }
     // Each journal is a legal history of a whole run, for every status.
     ensures legal { AreLegal result.runs }
-    // The form's spec files are run.
+    // Which status the bytes decide.
     ensures complete { IsComplete words.now (S.left source.old) (Rose (S.faults source.old) (S.faults source.new)) (Rose (K.faults sink.old) (K.faults sink.new)) result.status }
 {
-    if let Some(word) = bad_word(words) {
-        let status = conclude(sink, Status::Usage { word }, USAGE.as_bytes());
-        return without_runs(alloc, status);
-    }
-    match perform(alloc, source) {
-        Ok(performed) => report_runs(sink, performed),
-        Err(Stop::Spec(fault)) => {
-            let status = conclude(sink, Status::SpecFault(fault), line_of(fault).as_bytes());
-            without_runs(alloc, status)
-        }
-        Err(Stop::Fault) => without_runs(alloc, Status::ReadFault),
-        Err(Stop::NoMemory) => without_runs(alloc, Status::NoMemory),
-    }
+    answer_words(alloc, words, source, sink)
 }
-
 /// `alterlive`: every command, with threads where a command starts some. So far none does.
 pub fn answer<R: Threads + Wait + Sync, S: Source, K: Sink, G: Gate + Sync>(
     rt: &R,
@@ -86,6 +110,7 @@ pub fn answer<R: Threads + Wait + Sync, S: Source, K: Sink, G: Gate + Sync>(
 ) -> Answer
     ensures answer { IsAnswer words.now (S.left source.old) (S.left source.new) (Rose (S.faults source.old) (S.faults source.new)) (Rose (K.faults sink.old) (K.faults sink.new)) (K.held sink.old) (K.held sink.new) result.runs result.status }
     ensures read { IsReadFor (S.left source.old) (S.left source.new) result.status }
+    ensures up_to { IsReadUpTo most_bytes (S.left source.old) (S.left source.new) }
     ensures legal { AreLegal result.runs }
     ensures complete { IsComplete words.now (S.left source.old) (Rose (S.faults source.old) (S.faults source.new)) (Rose (K.faults sink.old) (K.faults sink.new)) result.status }
 {
@@ -103,14 +128,52 @@ fn without_runs(alloc: Global, status: Status) -> Answer
     }
 }
 
-fn line_of(fault: SpecFault) -> &'static str
-    ensures { result.now ≡ fault_line fault }
+fn limit_word(what: SpecLimit) -> &'static str
+    ensures { result.now ≡ limit_word what }
 {
-    match fault {
-        SpecFault::NotYet => NOT_YET,
+    match what {
+        SpecLimit::Sessions => "sessions",
+        SpecLimit::Permutations => "permutations",
+        SpecLimit::Block => "block",
+        SpecLimit::Steps => "steps",
+        SpecLimit::Work => "work",
     }
 }
-
+/// The line that tells a fault of a spec file.
+fn line_of(alloc: Global, fault: SpecFault) -> Result<String, NoMemory>
+    ensures { IfOk result (λ line. string_bytes line ≡ fault_line fault) }
+{
+    let mut line = String::new(alloc);
+    match fault {
+        SpecFault::Utf8 { at } => write!(line, "spec fault at byte {at}: utf8\n")?,
+        SpecFault::Syntax { at } => write!(line, "spec fault at byte {at}: syntax\n")?,
+        SpecFault::Marker { at } => write!(line, "spec fault at byte {at}: marker\n")?,
+        SpecFault::TwoSteps { at } => write!(line, "spec fault at byte {at}: two steps\n")?,
+        SpecFault::NoStep { at } => write!(line, "spec fault at byte {at}: no step\n")?,
+        SpecFault::Limit { at, what } => {
+            write!(
+                line,
+                "spec fault at byte {at}: limit of {}\n",
+                limit_word(what)
+            )?;
+        }
+        SpecFault::NoPermutation => line.push_str("spec fault: no permutation\n")?,
+    }
+    Ok(line)
+}
+/// Tells a fault of a spec file.
+fn report_fault<K: Sink>(alloc: Global, sink: &mut K, fault: SpecFault) -> Answer
+    ensures runs { result.runs ≡ [] }
+    ensures status { IsTold fault (Rose (K.faults sink.old) (K.faults sink.new)) (K.held sink.old) (K.held sink.new) result.status }
+{
+    match line_of(alloc, fault) {
+        Ok(line) => {
+            let status = conclude(sink, Status::SpecFault(fault), line.as_bytes());
+            without_runs(alloc, status)
+        }
+        Err(NoMemory) => without_runs(alloc, Status::NoMemory),
+    }
+}
 /// Writes the report of runs.
 fn report_runs<K: Sink>(sink: &mut K, performed: Performed) -> Answer
     ensures runs { result.runs ≡ performed.runs }

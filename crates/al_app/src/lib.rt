@@ -2,13 +2,14 @@
 #![tactic(auto)]
 
 mod answers;
-mod first;
 mod report;
 mod runs;
+mod scripts;
 mod status;
 mod top;
+mod words;
 
 pub use answers::{answer, answer_alone};
-pub use first::read_first;
 pub use report::print;
 pub use status::{Answer, Status};
+pub use words::{Words, exit_number, words_of};

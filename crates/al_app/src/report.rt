@@ -1,12 +1,12 @@
 ghost use Rattle.std.specs.Prelude.{◌≡◌, ◌≤◌, ◌++◌, length, flat_map, IfOk, OnOk, string_bytes};
 ghost use Rattle.std.specs.List.{count_by};
-ghost use Rattle.al_app.specs.Report.{report, run_text, journal_text, title_text, setup_text, permutation_text, names_text, step_name, is_step, gives_step, giving_end, session_name, blocked_text, rest_text, not_given_text, text_at};
+ghost use Rattle.al_app.specs.Report.{report, run_text, journal_text, title_text, setup_text, permutation_text, names_text, step_name, is_step, gives_step, giving_end, blocked_text, rest_text, not_given_text, text_at};
 
 mod blocks;
 mod names;
 mod replies;
 
-use crate::report::blocks::{push_entries, push_step};
+use crate::report::blocks::{push_entries, push_session_name, push_step};
 use crate::report::names::push_name;
 use al_history::{Block, Entry, Part, Run, RunList, Setup, Spec};
 use al_values::{Name, NoMemory, Txt};
@@ -28,8 +28,8 @@ fn is_step(part: Part) -> bool
     ensures { result ≡ is_step part }
 {
     match part {
-        Part::Setup => false,
         Part::Step => true,
+        Part::Setup | Part::SessionSetup | Part::SessionTeardown | Part::Teardown => false,
     }
 }
 
@@ -68,19 +68,6 @@ fn giving_end(journal: &[Entry]) -> usize
         }
     }
     journal.len()
-}
-
-fn push_session_name(text: &mut String, sessions: &[Name], session: u32) -> Result<(), NoMemory>
-    ensures ok { OnOk result
-        (string_bytes text.new ≡ string_bytes text.old ++ session_name sessions.now session) }
-{
-    if session == 0 {
-        return Ok(());
-    }
-    if let Some(name) = sessions.get((session - 1) as usize) {
-        push_name(text, name)?;
-    }
-    Ok(())
 }
 
 fn push_blocked(text: &mut String, sessions: &[Name], block: &Block) -> Result<(), NoMemory>
@@ -164,11 +151,10 @@ fn push_journal(
     ensures ok { OnOk result
         (string_bytes text.new ≡ string_bytes text.old ++ journal_text spec.now number setup journal.now) }
 {
-    let blocks = spec.blocks.as_slice();
     let end = giving_end(journal);
-    push_entries(text, blocks, journal, 0, end)?;
+    push_entries(text, spec, journal, 0, end)?;
     push_not_given(text, spec, number, setup, journal)?;
-    push_entries(text, blocks, journal, end, journal.len())?;
+    push_entries(text, spec, journal, end, journal.len())?;
     Ok(())
 }
 

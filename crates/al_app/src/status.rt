@@ -8,7 +8,7 @@ use al_history::{RunList, SpecFault};
 pub enum Status {
     /// The report was written.
     Done,
-    /// The input is no spec file.
+    /// The input is no spec file, or one without a permutation.
     SpecFault(SpecFault),
     /// The words are no command.
     Usage {
@@ -21,6 +21,8 @@ pub enum Status {
     WriteFault,
     /// No memory was to be had.
     NoMemory,
+    /// The input is longer than a spec file may be.
+    TooLong,
     /// A setup block was refused, in this run as the first. The report was written.
     SetupFailed {
         /// The run's number, from 1.
@@ -40,6 +42,7 @@ impl Status {
             Status::ReadFault => 3,
             Status::WriteFault => 4,
             Status::NoMemory => 5,
+            Status::TooLong => 6,
             Status::SetupFailed { .. } => 7,
         }
     }

@@ -1,5 +1,5 @@
 -- Why a source was not read whole.
-use Rattle.std.specs.Prelude.{ℕ, List, Option, ◌≡◌, ◌<◌, ◌≤◌, length}
+use Rattle.std.specs.Prelude.{ℕ, List, Option, ◌≡◌, ◌+◌, ◌<◌, ◌≤◌, length}
 use Rattle.std.specs.Io.KnownBytes.{Consumes}
 use Rattle.al_outside.specs.Faults.{Rose}
 use Rattle.al_outside.specs.declared.reading.NotRead.{NotRead}
@@ -15,6 +15,10 @@ NotReadFor limit old new before now causes.TooLong = IsReadPast limit old new ×
 NotReadFor limit old new before now causes.Fault = (before ≤ now) × Rose before now
 NotReadFor limit old new before now causes.NoMemory = now ≡ before
 
--- known bytes lost some at their front
-abbrev pub LosesFront : Option (List ℕ) → Option (List ℕ) → Type 0
-LosesFront old new = (front : List ℕ) × Consumes old new front
+-- how many bytes one call reads at most
+abbrev pub read_size : ℕ
+read_size = 8192
+
+-- known bytes lost some at their front: as many as the limit allows, and what one call reads beyond it, at most
+abbrev pub IsReadUpTo : ℕ → Option (List ℕ) → Option (List ℕ) → Type 0
+IsReadUpTo limit old new = (front : List ℕ) × Consumes old new front × (length front ≤ limit + read_size)

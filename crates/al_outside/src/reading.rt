@@ -1,6 +1,6 @@
 ghost use Rattle.std.specs.Prelude.{◌≡◌, ◌≤◌, ◌<◌, length, IfOk, OnOk, IfErr, OnErr, IfSome};
 ghost use Rattle.std.specs.Io.KnownBytes.{Consumes, IsAtEnd};
-ghost use Rattle.al_outside.specs.Reading.{NotReadFor, LosesFront};
+ghost use Rattle.al_outside.specs.Reading.{NotReadFor, read_size, IsReadUpTo};
 
 use crate::{Failed, Source};
 use std::alloc::{AllocError, Global};
@@ -54,7 +54,7 @@ pub fn read_all<S: Source>(alloc: Global, limit: usize, source: &mut S) -> Resul
     ensures consumed { IfOk result (λ text. Consumes (S.left source.old) (S.left source.new) text.items) }
     ensures faults { OnOk result (S.faults source.new ≡ S.faults source.old) }
     ensures cause { IfErr result (NotReadFor limit (S.left source.old) (S.left source.new) (S.faults source.old) (S.faults source.new)) }
-    ensures none_lost { OnErr result (LosesFront (S.left source.old) (S.left source.new)) }
+    ensures up_to { IsReadUpTo limit (S.left source.old) (S.left source.new) }
 {
     let mut buffer = vec![in alloc; 0; READ_SIZE]?;
     read_by(alloc, limit, source, buffer.as_mut_slice())
@@ -67,14 +67,15 @@ fn read_by<S: Source>(
     source: &mut S,
     buffer: &mut [u8],
 ) -> Result<Vec<u8>, NotRead>
-    requires { 0 < length buffer.old }
+    requires some { 0 < length buffer.old }
+    requires small { length buffer.old ≤ read_size }
     ensures all { IfOk result (λ text. IfSome (S.left source.old) (λ input. text.items ≡ input)) }
     ensures end { OnOk result (IsAtEnd (S.left source.new)) }
     ensures within { IfOk result (λ text. length text.items ≤ limit) }
     ensures consumed { IfOk result (λ text. Consumes (S.left source.old) (S.left source.new) text.items) }
     ensures faults { OnOk result (S.faults source.new ≡ S.faults source.old) }
     ensures cause { IfErr result (NotReadFor limit (S.left source.old) (S.left source.new) (S.faults source.old) (S.faults source.new)) }
-    ensures none_lost { OnErr result (LosesFront (S.left source.old) (S.left source.new)) }
+    ensures up_to { IsReadUpTo limit (S.left source.old) (S.left source.new) }
 {
     let mut text = Vec::new(alloc);
     'reads: loop {

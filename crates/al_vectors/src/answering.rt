@@ -29,7 +29,71 @@ a|b
 (1 row)
 ";
 
-const NOT_YET: &str = "spec fault: not yet\n";
+// Bytes that are no spec file, or one without a permutation, each with its fault and its line.
+const FAULTY: [(&[u8], SpecFault, &str); 12] = [
+    (
+        b"",
+        SpecFault::Syntax { at: 0 },
+        "spec fault at byte 0: syntax\n",
+    ),
+    (
+        b"session s1 step a { SELECT",
+        SpecFault::Syntax { at: 26 },
+        "spec fault at byte 26: syntax\n",
+    ),
+    (
+        b"session s\xff step x { SELECT * FROM t } permutation x",
+        SpecFault::Utf8 { at: 9 },
+        "spec fault at byte 9: utf8\n",
+    ),
+    (
+        b"session s step x { } \0 permutation x",
+        SpecFault::Syntax { at: 21 },
+        "spec fault at byte 21: syntax\n",
+    ),
+    (
+        b"session s step x { } step x { } permutation x",
+        SpecFault::TwoSteps { at: 26 },
+        "spec fault at byte 26: two steps\n",
+    ),
+    (
+        b"session s step x { } session t step x { } permutation y",
+        SpecFault::TwoSteps { at: 36 },
+        "spec fault at byte 36: two steps\n",
+    ),
+    (
+        b"session s step x { } permutation x y",
+        SpecFault::NoStep { at: 35 },
+        "spec fault at byte 35: no step\n",
+    ),
+    (
+        b"session s step x { } permutation x(*)",
+        SpecFault::Marker { at: 34 },
+        "spec fault at byte 34: marker\n",
+    ),
+    (
+        b"teardown { } setup { } session s step x { } permutation x",
+        SpecFault::Syntax { at: 13 },
+        "spec fault at byte 13: syntax\n",
+    ),
+    (
+        b"session s permutation x",
+        SpecFault::Syntax { at: 10 },
+        "spec fault at byte 10: syntax\n",
+    ),
+    (
+        b"session s step x { }",
+        SpecFault::NoPermutation,
+        "spec fault: no permutation\n",
+    ),
+    (
+        b"setup { SELEC } session s step x { } # permutation x",
+        SpecFault::NoPermutation,
+        "spec fault: no permutation\n",
+    ),
+];
+
+const TOO_LONG: &str = "input too long\n";
 
 const USAGE: &str =
     "usage: alterlive run [--brief] | race [--brief] | plan | load NUMBER [--rows ROWS]\n";
@@ -361,23 +425,31 @@ fn blanks(alloc: Global, len: usize) -> Result<Vec<u8>, NoMemory> {
 }
 
 #[test]
-fn refuses_other_bytes(rt: HostRuntime) -> Result<(), Fail> {
-    let alloc = rt.alloc();
-    let fault = Status::SpecFault(SpecFault::NotYet);
-    for bytes in [
-        b"".as_slice(),
-        b"setup { CREATE TABLE t (a integer) }\nsetup { INSERT INTO t VALUES (1) }\nsession s1\nstep add { ALTER TABLE".as_slice(),
-        b"session s\xff step x { SELECT * FROM t } permutation x".as_slice(),
-        b"session s step x { SELECT * FROM t }\0 permutation x".as_slice(),
-    ] {
-        let answer = answer_to(&rt, alloc, &["run"], bytes, fault, NOT_YET)?;
+fn refuses_faulty_files(rt: HostRuntime) -> Result<(), Fail> {
+    for (bytes, fault, line) in FAULTY {
+        let status = Status::SpecFault(fault);
+        let answer = answer_to(&rt, rt.alloc(), &["run"], bytes, status, line)?;
         assert_eq!(rt; answer.runs.len(), 0);
     }
-    for len in [65_536, 65_537] {
-        let bytes = blanks(alloc, len)?;
-        let answer = answer_to(&rt, alloc, &["run"], &bytes, fault, NOT_YET)?;
-        assert_eq!(rt; answer.runs.len(), 0, "{len}");
-    }
+    Ok(())
+}
+
+#[test]
+fn reads_so_many_bytes(rt: HostRuntime) -> Result<(), Fail> {
+    let alloc = rt.alloc();
+    let fault = Status::SpecFault(SpecFault::Syntax { at: 4_194_304 });
+    let line = "spec fault at byte 4194304: syntax\n";
+    answer_to(
+        &rt,
+        alloc,
+        &["run"],
+        &blanks(alloc, 4_194_304)?,
+        fault,
+        line,
+    )?;
+    let long = blanks(alloc, 4_194_305)?;
+    let answer = answer_to(&rt, alloc, &["run"], &long, Status::TooLong, TOO_LONG)?;
+    assert_eq!(rt; answer.runs.len(), 0);
     Ok(())
 }
 
@@ -457,11 +529,12 @@ fn writes_nothing_where_the_source_fails(rt: HostRuntime) -> Result<(), Fail> {
 fn numbers(rt: HostRuntime) {
     for (status, number) in [
         (Status::Done, 0),
-        (Status::SpecFault(SpecFault::NotYet), 1),
+        (Status::SpecFault(SpecFault::NoPermutation), 1),
         (Status::Usage { word: 1 }, 2),
         (Status::ReadFault, 3),
         (Status::WriteFault, 4),
         (Status::NoMemory, 5),
+        (Status::TooLong, 6),
         (Status::SetupFailed { run: 1 }, 7),
     ] {
         assert_eq!(rt; status.number(), number);

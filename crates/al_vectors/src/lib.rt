@@ -1,11 +1,13 @@
-//! Tests over what the crates below show: the top calls, the reader and the report.
+//! Tests over what the crates below show: the top calls and the report.
 #![tactic(auto)]
 
 #[cfg(test)]
 mod answering;
 #[cfg(test)]
+mod limits;
+#[cfg(test)]
 mod printing;
 #[cfg(test)]
-mod reading;
-#[cfg(test)]
 mod several;
+#[cfg(test)]
+mod whole;

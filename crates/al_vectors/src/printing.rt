@@ -8,8 +8,8 @@ use std::test::Fail;
 
 fn make_block(alloc: Global, part: Part, name: &str, text: &str) -> Result<Block, NoMemory> {
     let session = match part {
-        Part::Setup => 0,
-        Part::Step => 1,
+        Part::Setup | Part::Teardown => 0,
+        Part::SessionSetup | Part::Step | Part::SessionTeardown => 1,
     };
     Ok(Block {
         part,

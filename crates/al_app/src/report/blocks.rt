@@ -1,11 +1,11 @@
 //! Blocks where they are given, and steps where they end.
 ghost use Rattle.std.specs.Prelude.{◌≡◌, ◌≤◌, ◌++◌, length, take, reverse, OnOk, string_bytes};
-ghost use Rattle.al_app.specs.Report.{step_text, is_drivers, is_give, is_end, answer_text, replies_text, ends_in_part, waits, given_at, head_text, given_text, completed_text, end_text, place_text, entries_text, text_at};
+ghost use Rattle.al_app.specs.Report.{step_text, is_drivers, is_give, is_end, answer_text, replies_text, ends_in_part, waits, given_at, session_name, session_text, head_text, given_text, completed_text, end_text, place_text, entries_text, text_at};
 
 use crate::report::names::push_name;
 use crate::report::replies::{push_refusal, push_reply};
-use al_history::{Block, Entry, Part};
-use al_values::NoMemory;
+use al_history::{Block, Entry, Part, Spec};
+use al_values::{Name, NoMemory};
 
 fn is_drivers(entry: &Entry) -> bool
     ensures { result ≡ is_drivers entry.now }
@@ -101,8 +101,8 @@ fn waits(part: Part, session: u32, later: &[Entry]) -> bool
     ensures { result ≡ waits part session later.now }
 {
     match part {
-        Part::Setup => false,
         Part::Step => !ends_in_part(session, later),
+        Part::Setup | Part::SessionSetup | Part::SessionTeardown | Part::Teardown => false,
     }
 }
 
@@ -135,26 +135,59 @@ pub fn push_step(text: &mut String, block: &Block) -> Result<(), NoMemory>
     Ok(())
 }
 
-fn push_head(text: &mut String, number: u32, block: &Block) -> Result<(), NoMemory>
+/// The name of a session of the file; nothing for the control session.
+pub fn push_session_name(text: &mut String, sessions: &[Name], session: u32) -> Result<(), NoMemory>
     ensures ok { OnOk result
-        (string_bytes text.new ≡ string_bytes text.old ++ head_text number block.now) }
+        (string_bytes text.new ≡ string_bytes text.old ++ session_name sessions.now session) }
+{
+    if session == 0 {
+        return Ok(());
+    }
+    if let Some(name) = sessions.get((session - 1) as usize) {
+        push_name(text, name)?;
+    }
+    Ok(())
+}
+
+fn push_session(text: &mut String, spec: &Spec, block: &Block) -> Result<(), NoMemory>
+    ensures ok { OnOk result
+        (string_bytes text.new ≡ string_bytes text.old ++ session_text spec.now block.now) }
+{
+    text.push_str("session ")?;
+    push_session_name(text, spec.sessions.as_slice(), block.session)?;
+    Ok(())
+}
+
+fn push_head(text: &mut String, spec: &Spec, number: u32, block: &Block) -> Result<(), NoMemory>
+    ensures ok { OnOk result
+        (string_bytes text.new ≡ string_bytes text.old ++ head_text spec.now number block.now) }
 {
     match block.part {
         Part::Setup => {
             let place = u64::from(number) + 1;
             write!(text, "setup {place}")?;
         }
+        Part::SessionSetup => {
+            push_session(text, spec, block)?;
+            text.push_str(" setup")?;
+        }
         Part::Step => {
             push_step(text, block)?;
             text.push_str(": ")?;
             text.push_str(block.text.as_str())?;
         }
+        Part::SessionTeardown => {
+            push_session(text, spec, block)?;
+            text.push_str(" teardown")?;
+        }
+        Part::Teardown => text.push_str("teardown")?,
     }
     Ok(())
 }
 
 fn push_given(
     text: &mut String,
+    spec: &Spec,
     journal: &[Entry],
     session: u32,
     later: &[Entry],
@@ -162,9 +195,9 @@ fn push_given(
     block: &Block,
 ) -> Result<(), NoMemory>
     ensures ok { OnOk result
-        (string_bytes text.new ≡ string_bytes text.old ++ given_text journal.now session later.now number block.now) }
+        (string_bytes text.new ≡ string_bytes text.old ++ given_text spec.now journal.now session later.now number block.now) }
 {
-    push_head(text, number, block)?;
+    push_head(text, spec, number, block)?;
     if waits(block.part, session, later) {
         text.push_str(" <waiting ...>\n")?;
     } else {
@@ -211,18 +244,19 @@ fn push_end(
 
 fn push_place(
     text: &mut String,
-    blocks: &[Block],
+    spec: &Spec,
     journal: &[Entry],
     place: usize,
 ) -> Result<(), NoMemory>
     ensures ok { OnOk result
-        (string_bytes text.new ≡ string_bytes text.old ++ place_text blocks.now journal.now place) }
+        (string_bytes text.new ≡ string_bytes text.old ++ place_text spec.now journal.now place) }
 {
     match journal.get(place) {
         Some(Entry::Give { session, block }) => {
-            if let Some(given) = blocks.get(*block as usize) {
+            if let Some(given) = spec.blocks.get(*block as usize) {
                 push_given(
                     text,
+                    spec,
                     journal,
                     *session,
                     &journal[place + 1..],
@@ -233,7 +267,7 @@ fn push_place(
         }
         Some(Entry::End { session }) => {
             if let Some(given) = given_before(journal, *session, place) {
-                push_end(text, blocks, journal, given)?;
+                push_end(text, spec.blocks.as_slice(), journal, given)?;
             }
         }
         _ => {}
@@ -244,17 +278,17 @@ fn push_place(
 /// The entries from a place of a journal up to another.
 pub fn push_entries(
     text: &mut String,
-    blocks: &[Block],
+    spec: &Spec,
     journal: &[Entry],
     from: usize,
     to: usize,
 ) -> Result<(), NoMemory>
     requires { from ≤ to }
     ensures ok { OnOk result
-        (string_bytes text.new ≡ string_bytes text.old ++ entries_text blocks.now journal.now from to) }
+        (string_bytes text.new ≡ string_bytes text.old ++ entries_text spec.now journal.now from to) }
 {
     for place in from..to {
-        push_place(text, blocks, journal, place)?;
+        push_place(text, spec, journal, place)?;
     }
     Ok(())
 }

@@ -2,7 +2,7 @@
 ghost use Rattle.std.specs.Prelude.{◌≡◌, ◌++◌, codes, flat_map, OnOk, string_bytes};
 ghost use Rattle.std.specs.List.{join_by};
 ghost use Rattle.al_values.specs.Printed.{printed};
-ghost use Rattle.al_app.specs.Report.{refusal_text, reply_text, rows_text, row_text, row_count_text, tag_text, cause_text, limit_name, many_values_text};
+ghost use Rattle.al_app.specs.Report.{refusal_text, reply_text, rows_text, row_text, row_count_text, tag_text, cause_text, limit_name, syntax_text, not_built_text, many_values_text};
 
 use al_history::{Cause, Entry, Reply, RunLimit, Tag};
 use al_values::{Name, NoMemory, Row, Value};
@@ -12,6 +12,8 @@ fn push_cause(text: &mut String, cause: &Cause) -> Result<(), NoMemory>
         (string_bytes text.new ≡ string_bytes text.old ++ cause_text cause.now) }
 {
     match cause {
+        Cause::Syntax { at } => push_syntax(text, *at)?,
+        Cause::NotInProfile { at } => push_not_built(text, *at)?,
         Cause::NoTable { name } => write!(text, "42P01: table \"{name}\" does not exist")?,
         Cause::TwiceTable { name } => write!(text, "42P07: table \"{name}\" already exists")?,
         Cause::TwiceColumn { name } => write!(text, "42701: column \"{name}\" already exists")?,
@@ -29,8 +31,24 @@ fn limit_name(what: RunLimit) -> &'static str
     ensures { result.now ≡ limit_name what }
 {
     match what {
+        RunLimit::Tables => "tables",
+        RunLimit::Columns => "columns",
         RunLimit::Journal => "journal",
     }
+}
+
+fn push_syntax(text: &mut String, at: u32) -> Result<(), NoMemory>
+    ensures ok { OnOk result (string_bytes text.new ≡ string_bytes text.old ++ syntax_text at) }
+{
+    write!(text, "42601: syntax error at byte {at}")?;
+    Ok(())
+}
+
+fn push_not_built(text: &mut String, at: u32) -> Result<(), NoMemory>
+    ensures ok { OnOk result (string_bytes text.new ≡ string_bytes text.old ++ not_built_text at) }
+{
+    write!(text, "0A000: not supported at byte {at}")?;
+    Ok(())
 }
 
 fn push_many_values(text: &mut String, want: u32, got: u32) -> Result<(), NoMemory>

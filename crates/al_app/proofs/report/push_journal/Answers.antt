@@ -7,9 +7,9 @@ pub returns : goal.returns
 returns c =
     let spec = c.args.spec.now in
     let journal = c.args.journal.now in
-    let first = rw (c.as_slice-blocks.ensures, c.giving_end-end.ensures.end) at c.in_ok-push_entries.ensures.ok in
-    let last = rw (c.as_slice-blocks.ensures, c.giving_end-end.ensures.end) at c.in_ok-push_entries-2.ensures.ok in
+    let first = rw c.giving_end-end.ensures.end at c.in_ok-push_entries.ensures.ok in
+    let last = rw c.giving_end-end.ensures.end at c.in_ok-push_entries-2.ensures.ok in
     record {
-      ok = appended_three _ _ _ _ (entries_text spec.blocks journal 0 (giving_end journal)) (not_given_text spec c.args.number c.args.setup journal) (entries_text spec.blocks journal (giving_end journal) (length journal))
+      ok = appended_three _ _ _ _ (entries_text spec journal 0 (giving_end journal)) (not_given_text spec c.args.number c.args.setup journal) (entries_text spec journal (giving_end journal) (length journal))
           first c.in_ok-push_not_given.ensures.ok last;
     }

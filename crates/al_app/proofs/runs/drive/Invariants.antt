@@ -1,6 +1,9 @@
-use Rattle.std.proofs.Common.{◌<◌, ◌≤◌, ◌^◌, length}
+use Rattle.al_engine.specs.Ran.{places_left}
 use Rattle.al_app.specs.Runs.{WentOnInTurn}
 use Rattle.al_app.proofs.runs.drive.Given as goal
 
-abbrev pub invariant-loop-turn : goal.invariant-loop-turn
-invariant-loop-turn l = record { went : WentOnInTurn l.initial.engine l.engine l.refused; counted : l._turn ≤ length l.engine.past; few : l._turn < 2 ^ 32 }
+abbrev pub invariant-turns : goal.invariant-turns
+invariant-turns l = WentOnInTurn l.initial.engine l.engine l.refused
+
+abbrev pub decreases-turns : goal.decreases-turns
+decreases-turns l = places_left l.engine.past
