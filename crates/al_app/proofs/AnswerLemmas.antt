@@ -1,6 +1,6 @@
 -- How an answer comes about.
-use Rattle.std.proofs.Common.{◌≡◌, ℕ, ◌+◌, ◌<◌, ◌≤◌, List, [], ◌++◌, length, refl, sym, ap, subst, Option, Some, None, IfSome, inl, inr, arith, ◌∙◌, length-append}
-use Rattle.std.specs.Io.KnownBytes.{Consumes, IsAtEnd}
+use Rattle.std.proofs.Common.{◌≡◌, ℕ, ◌<◌, ◌≤◌, List, [], ◌++◌, length, refl, sym, subst, Option, Some, None, IfSome, inl, inr, arith, ◌∙◌, length-append}
+use Rattle.std.specs.Io.KnownBytes.{IsAtEnd}
 use Rattle.al_history.specs.declared.run.Run.{Run}
 use Rattle.al_spec.specs.declared.spec.SpecFault.{SpecFault}
 use Rattle.al_spec.specs.Files.{IsFault}

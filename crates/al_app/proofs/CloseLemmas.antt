@@ -1,5 +1,5 @@
 -- The end of a run: the cancels of busy sessions, the teardown blocks, and the closes.
-use Rattle.std.proofs.Common.{◌≡◌, ℕ, zero, suc, ◌+◌, ◌<◌, ◌≤◌, List, [], ◌∷◌, ◌++◌, length, refl, sym, ap, subst, cond, true, false, Bool, Option, Some, None, arith, ◌∙◌, inl, inr, map, slice_get, option_map}
+use Rattle.std.proofs.Common.{◌≡◌, ℕ, zero, suc, ◌+◌, ◌<◌, ◌≤◌, List, [], ◌∷◌, ◌++◌, length, refl, sym, ap, subst, cond, true, false, Bool, Option, Some, None, arith, ◌∙◌, inl, inr, slice_get, option_map}
 use Rattle.std.specs.Prelude.{◌==◌, ◌≢◌, ◌⊎◌, eqb, leb}
 use Rattle.std.proofs.lemmas.Bool.{ne_eqb}
 use Rattle.std.proofs.lemmas.List.{append-nil}
@@ -16,13 +16,13 @@ use Rattle.al_history.specs.declared.statement.Terms.{Terms}
 use Rattle.al_history.specs.Kept.{Kept}
 use Rattle.al_history.specs.Past.{Past, past_of}
 use Rattle.al_history.specs.Hand.{hand, closed}
-use Rattle.al_history.specs.Whole.{is_setup, is_teardown, sessions_from, of_setup, failed_setup, setup_by, Task, CancelIfBusy, CloseSession, give_and_cancel, each_block, each_session, Move, next_move, left, due, IsIdle, IsRun}
+use Rattle.al_history.specs.Whole.{is_setup, sessions_from, failed_setup, setup_by, Task, CancelIfBusy, CloseSession, each_block, each_session, Move, next_move, left, due, IsIdle, IsRun}
 use Rattle.al_history.proofs.Views.{hold_always}
 use Rattle.al_engine.specs.Ran.{Ran, IsLegalRun, IsClosed}
 use Rattle.al_app.specs.declared.runs.Teardowns.{Teardowns}
 use Rattle.al_app.specs.declared.runs.Teardowns.TheVariants as teardowns
 use Rattle.al_spec.specs.Sound.{IsSound}
-use Rattle.al_app.specs.Runs.{terms_for, HasLeft, left_when, tasks_from, after_closes, after_teardowns, after_cancels, after_steps, IsAtRest, AreOfSetup, failed_by, CancelsIfBusy, WasCancelled, IsNoneBusy, IsAnyOpen, HasRunWhole, SetupFailed, StepsRan, SessionsCancelled, is_of, AreOpenFor, TeardownsRan, SessionsClosed, failed_block, IsEnded, HasRunOne}
+use Rattle.al_app.specs.Runs.{terms_for, HasLeft, left_when, tasks_from, after_closes, after_teardowns, after_cancels, IsAtRest, AreOfSetup, failed_by, CancelsIfBusy, WasCancelled, IsNoneBusy, IsAnyOpen, HasRunWhole, SetupFailed, StepsRan, SessionsCancelled, is_of, AreOpenFor, TeardownsRan, SessionsClosed, failed_block, IsEnded, HasRunOne}
 use Rattle.al_app.proofs.QuietLemmas.{quietly_aborted, left_aborted}
 use Rattle.al_app.proofs.LeftLemmas.{moves_same, then_left, left_none, tasks_here, tasks_skip, tasks_end}
 use Rattle.al_app.proofs.SpecLemmas.{session_of_block, teardown_session, of_setup_not}

@@ -1,5 +1,5 @@
 -- Turns of the sessions, until none can go on.
-use Rattle.std.proofs.Common.{◌≡◌, ℕ, List, ◌∷◌, ap, refl, subst, Option, Some, None, Bool, true, false, arith, ◌∙◌, inl, inr}
+use Rattle.std.proofs.Common.{◌≡◌, ℕ, List, ◌∷◌, ap, refl, subst, Option, Some, None, Bool, true, false, ◌∙◌, inl, inr}
 use Rattle.std.specs.Prelude.{◌⊎◌, ◌||◌, ◌==◌, ◌≢◌, eqb, IsSome}
 use Rattle.std.proofs.lemmas.Bool.Decides.{eqb_tells}
 use Rattle.al_spec.specs.declared.spec.Spec.{Spec}

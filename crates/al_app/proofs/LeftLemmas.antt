@@ -1,8 +1,7 @@
 -- What is left to do, and the move that is due.
 use Rattle.std.proofs.Common.{◌≡◌, ℕ, zero, suc, ◌+◌, ◌≤◌, List, [], ◌∷◌, ◌++◌, length, drop, refl, ap, Option, Some, None, Bool, true, false, arith, ◌∙◌, slice_get, option_map, flat_map}
 use Rattle.std.specs.Prelude.{IsSome, ◌||◌}
-use Rattle.al_history.specs.declared.entry.Entry.{Entry}
-use Rattle.al_history.specs.declared.entry.Entry.TheVariants.{Give, Cancel, Close}
+use Rattle.al_history.specs.declared.entry.Entry.TheVariants.{Cancel}
 use Rattle.al_spec.specs.declared.spec.Block.{Block}
 use Rattle.al_spec.specs.declared.spec.Part.{Part}
 use Rattle.al_spec.specs.declared.spec.Spec.{Spec}

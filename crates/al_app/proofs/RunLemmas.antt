@@ -1,20 +1,20 @@
 -- The setup part and the steps of a run.
-use Rattle.std.proofs.Common.{◌≡◌, ℕ, zero, suc, ◌+◌, ◌<◌, ◌≤◌, List, [], ◌∷◌, ◌++◌, length, drop, refl, sym, ap, subst, cond, true, false, Bool, Option, Some, None, arith, ◌∙◌, inl, inr, slice_get, append_assoc}
+use Rattle.std.proofs.Common.{◌≡◌, ℕ, ◌+◌, ◌≤◌, List, [], ◌∷◌, ◌++◌, length, drop, refl, sym, ap, subst, cond, true, false, Bool, Option, Some, None, arith, ◌∙◌, inl, inr, slice_get, append_assoc}
 use Rattle.std.specs.Prelude.{◌==◌, ◌≢◌, ◌⊎◌, ◌||◌, eqb, IsSome}
 use Rattle.al_spec.specs.Keeps.{Each}
 use Rattle.std.proofs.lemmas.Bool.{ne_eqb}
 use Rattle.std.proofs.lemmas.Bool.Decides.{eqb_tells}
-use Rattle.al_history.specs.declared.entry.Entry.TheVariants.{Give, Cancel}
+use Rattle.al_history.specs.declared.entry.Entry.TheVariants.{Give}
 use Rattle.al_spec.specs.declared.spec.Block.{Block}
 use Rattle.al_spec.specs.declared.spec.Spec.{Spec}
 use Rattle.al_history.specs.Past.{Past}
-use Rattle.al_history.specs.Hand.{hand, closed}
-use Rattle.al_history.specs.Whole.{is_setup, is_session_teardown, is_teardown, session_for, of_setup, failed_setup, file_sessions, all_sessions, Task, GiveBlock, GiveSteps, CancelIfBusy, CloseSession, give_and_cancel, each_block, each_session, agenda, next_move, left, due}
+use Rattle.al_history.specs.Hand.{hand}
+use Rattle.al_history.specs.Whole.{is_setup, is_session_teardown, is_teardown, session_for, of_setup, failed_setup, file_sessions, all_sessions, Task, GiveSteps, CancelIfBusy, CloseSession, give_and_cancel, each_block, each_session, agenda, next_move, left, due}
 use Rattle.al_engine.specs.Ran.{Ran}
 use Rattle.al_spec.specs.Sound.{IsStepAt}
-use Rattle.al_app.specs.Runs.{HasLeft, left_when, tasks_from, after_steps, after_setup, AreOfSetup, failed_by, HasAnyEnded, HasRunBlock, WasCancelled, CancelsIfBusy, IsNoneBusy, HasRunWhole, SetupSoFar, SetupFailed, SetupGoesOn, InSteps, StepsSoFar, StepsRan}
+use Rattle.al_app.specs.Runs.{HasLeft, left_when, tasks_from, after_steps, after_setup, AreOfSetup, failed_by, HasAnyEnded, HasRunBlock, WasCancelled, CancelsIfBusy, IsNoneBusy, HasRunWhole, SetupSoFar, SetupGoesOn, InSteps, StepsSoFar, StepsRan}
 use Rattle.al_app.proofs.LeftLemmas.{due_is, then_left, left_skips, cancels_none, left_none, drop_at, drop_end, tasks_here, tasks_skip, tasks_end}
-use Rattle.al_app.proofs.SpecLemmas.{session_of_block, of_setup_not, of_setup_is, step_not_setup}
+use Rattle.al_app.proofs.SpecLemmas.{session_of_block, of_setup_is, step_not_setup}
 use Rattle.al_app.proofs.DriveLemmas.{of_setup_later, stays_none}
 
 -- ---- hands after a Give

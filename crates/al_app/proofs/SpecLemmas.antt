@@ -8,10 +8,10 @@ use Rattle.al_spec.specs.declared.spec.Block.{Block}
 use Rattle.al_spec.specs.declared.spec.Spec.{Spec}
 use Rattle.al_history.specs.declared.statement.ScriptBlock.{ScriptBlock}
 use Rattle.al_history.specs.declared.statement.Scripts.{Scripts}
-use Rattle.al_history.specs.Whole.{is_setup, is_session_teardown, is_teardown, session_for, of_setup}
+use Rattle.al_history.specs.Whole.{is_setup, is_teardown, session_for, of_setup}
 use Rattle.al_engine.specs.Ran.{IsOfSession, AreOfSessions}
 use Rattle.al_spec.specs.Sound.{PartFits, BlockFits, IsStepAt, IsSound}
-use Rattle.al_app.specs.Scripts.{EachWith, IsScriptOf, AreScripts}
+use Rattle.al_app.specs.Scripts.{EachWith, IsScriptOf}
 use Rattle.al_app.specs.Runs.{IsRunnable}
 
 pub all_at : {A : Type 0} (P : A → Type 0) (items : List A) (at : ℕ) (item : A) → Each P items → slice_get items at ≡ Some item → P item

@@ -12,7 +12,7 @@ use Rattle.al_spec.specs.declared.spec.Spec.{Spec}
 use Rattle.al_spec.specs.declared.spec.SpecFault.{SpecFault}
 use Rattle.al_spec.specs.declared.spec.SpecFault.TheVariants as faults
 use Rattle.al_spec.specs.Files.{IsSpecFile, IsFault, IfWhy}
-use Rattle.al_app.specs.Answers.{most_bytes, failed_first, IsRunnableFile, IsFaulty, HasRun, AreLegal}
+use Rattle.al_app.specs.Answers.{most_bytes, failed_first, IsFaulty, HasRun, AreLegal}
 use Rattle.al_app.specs.Runs.{terms_for, HasRunOne}
 use Rattle.al_app.specs.Top.{IsFaultOf}
 use Rattle.al_app.proofs.SpecLemmas.{take_with}

@@ -1,8 +1,7 @@
 -- The report of a call's runs, as bytes (src/test/isolation/README for its lines).
-use Rattle.std.specs.Prelude.{ℕ, ◌+◌, ◌-◌, ◌==◌, nat_le, Bool, true, false, not, ◌&&◌, ◌||◌, if◌then◌else◌, List, [], ◌∷◌, ◌++◌, length, take, drop, reverse, Option, Some, None, slice_get, codes, decimal, flat_map}
-use Rattle.std.specs.List.{concat, join_by, range_with_len, count_by, list_all}
+use Rattle.std.specs.Prelude.{ℕ, ◌+◌, ◌-◌, ◌==◌, Bool, true, false, not, if◌then◌else◌, List, [], ◌∷◌, ◌++◌, length, take, drop, reverse, Option, Some, None, slice_get, codes, decimal, flat_map}
+use Rattle.std.specs.List.{concat, join_by, range_with_len, count_by}
 use Rattle.std.specs.Option.{option_map_or}
-use Rattle.std.specs.Str.{bytes_eq}
 use Rattle.al_values.specs.declared.scalar.Value.{Value}
 use Rattle.al_values.specs.Printed.{printed}
 use Rattle.al_history.specs.declared.entry.Entry.{Entry}

@@ -1,5 +1,5 @@
 -- What the driver did to the engine.
-use Rattle.std.specs.Prelude.{◌≡◌, ℕ, drop, max, ◌/◌, ◌+◌, ◌<◌, ◌≤◌, ◌^◌, ◌&&◌, Bool, true, false, List, [], ◌∷◌, ◌++◌, length, ◌⊎◌, cond, Option, Some, None, IsSome, is_some, flat_map, slice_get}
+use Rattle.std.specs.Prelude.{◌≡◌, ℕ, drop, max, ◌/◌, ◌+◌, ◌<◌, ◌≤◌, ◌&&◌, Bool, true, false, List, [], ◌∷◌, ◌++◌, length, ◌⊎◌, cond, Option, Some, None, IsSome, is_some, flat_map, slice_get}
 use Rattle.al_history.specs.declared.entry.Entry.TheVariants.{Give}
 use Rattle.al_history.specs.declared.run.Setup.{Setup}
 use Rattle.al_history.specs.declared.run.Setup.TheVariants as setups

@@ -1,5 +1,5 @@
 -- The words that the program is given, and the number that it ends with.
-use Rattle.std.specs.Prelude.{◌≡◌, ℕ, List, [], Option}
+use Rattle.std.specs.Prelude.{◌≡◌, ℕ, List, Option}
 use Rattle.al_history.specs.declared.run.Run.{Run}
 use Rattle.al_outside.specs.Holding.{Held}
 use Rattle.al_app.specs.declared.status.Status.{Status}

@@ -1,6 +1,6 @@
-use Rattle.std.proofs.Common.{◌∷◌, [], ◌++◌, ◌+◌, take, rules, refl}
+use Rattle.std.proofs.Common.{refl}
 use Rattle.std.proofs.lemmas.Option.{slice_get_read}
-use Rattle.al_app.specs.Scripts.{EachWith, IsScriptOf}
+use Rattle.al_app.specs.Scripts.{IsScriptOf}
 use Rattle.al_app.proofs.SpecLemmas.{each_more, take_with}
 use Rattle.al_app.proofs.scripts.all_scripts.Goals as goal
 
