@@ -1,6 +1,6 @@
 //! Steps of an engine with one session.
 ghost use Rattle.std.specs.Prelude.{◌≡◌, ◌∷◌, [], true, false, ◌<◌, Some, IfOk, OnOk, slice_get, option_map};
-ghost use Rattle.al_engine.specs.Ran.{AreSingle, IsSingle};
+ghost use Rattle.al_engine.specs.Ran.{AreOfSessions};
 ghost use Rattle.al_history.specs.Hand.{closed};
 ghost use Rattle.al_history.specs.declared.statement.ScriptBlock.{ScriptBlock};
 
@@ -125,7 +125,7 @@ fn turn_in<L: Ledger>(
 fn scripts(alloc: Global, kind: Kind) -> Result<Scripts, NoMemory>
     ensures sessions { IfOk result (λ s. s.sessions ≡ 1) }
     ensures blocks { IfOk result (λ s. (a b : ScriptBlock) × (s.blocks ≡ a ∷ b ∷ []) × (a.session ≡ 0) × (b.session ≡ 0)) }
-    ensures single { IfOk result AreSingle }
+    ensures known { IfOk result AreOfSessions }
 {
     let mut columns = NameList::new(alloc);
     columns.push(Name::new(alloc, "a")?)?;
@@ -162,9 +162,9 @@ fn statement_of(alloc: Global, kind: Kind) -> Result<Statement, NoMemory> {
 /// A block of the session with one statement.
 fn block_of(alloc: Global, statement: Statement) -> Result<ScriptBlock, NoMemory>
     ensures session { IfOk result (λ b. b.session ≡ 0) }
-    ensures single { IfOk result (IsSingle 1) }
 {
     let mut script = ListOf::new(alloc);
     script.push(statement)?;
+    let script = Ok(script);
     Ok(ScriptBlock { session: 0, script })
 }
