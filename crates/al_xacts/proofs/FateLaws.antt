@@ -3,13 +3,13 @@ use Rattle.std.proofs.Common.{◌≡◌, ℕ, ◌+◌, ◌<◌, ◌≤◌, Bool,
 use Rattle.std.proofs.Math.ListN.{length-set}
 use Rattle.std.specs.List.{list_any}
 use Rattle.std.specs.Option.{option_map_or}
-use Rattle.std.proofs.lemmas.Bool.{ne_eqb, or_parts, lt-ltb, le-ltb}
+use Rattle.std.proofs.lemmas.Bool.{ne_eqb, or_parts, or_right, lt-ltb, le-ltb}
 use Rattle.std.proofs.lemmas.Option.{slice_get_cases, slice_get_within, none-some}
 use Rattle.al_xacts.specs.declared.xact.Started.{Started}
 use Rattle.al_xacts.specs.declared.xact.Fate.{Fate}
 use Rattle.al_xacts.specs.declared.xact.Fate.TheVariants.{Open, Committed, Aborted}
 use Rattle.al_xacts.specs.Fates.{fate_of, fate_at, is_open, is_open_at, is_committed, open_from, GoesOn}
-use Rattle.al_xacts.specs.Snapshots.{Taken, taken, sees, SeesAsTaken}
+use Rattle.al_xacts.specs.Snapshots.{Taken, taken, sees, SeesAsTaken, EndIsSeen}
 
 -- ---- the numbers of the open ones
 
@@ -150,3 +150,52 @@ open_from-ended n (suc k) x (v ∷ ts) t u e got ended = by_fate (is_open v.fate
       → cond b (n ∷ open_from (n + 1) (slice_set ts k u)) (open_from (n + 1) (slice_set ts k u)) ≡ filter (λ other. not (other == x)) (cond b (n ∷ open_from (n + 1) ts) (open_from (n + 1) ts))
   by_fate true more = rw (apart n x (λ f. omega arith)) (ap (λ (ks : List ℕ). n ∷ ks) more)
   by_fate false more = more
+
+-- a snapshot of another doesn't see who isn't committed
+unseen : (snapshot : Taken) (ts : List Started) (x : ℕ) → (x ≡ snapshot.own → ⊥) → is_committed (fate_at ts x) ≡ false → sees snapshot ts x ≡ false
+unseen snapshot ts x differ e = rw (apart x snapshot.own differ, e) (none (nat_lt x snapshot.end) (not (has x snapshot.open_ones))) where
+  none : (a b : Bool) → (a && (b && false)) ≡ false
+  none true true = refl
+  none true false = refl
+  none false b = refl
+
+sees-other : (snapshot : Taken) (before after : List Started) (other : ℕ) → fate_at after other ≡ fate_at before other → sees snapshot after other ≡ sees snapshot before other
+sees-other snapshot before after other e = rw e refl
+
+pub open-fate : (ts : List Started) (x : ℕ) → is_open_at ts x ≡ true → fate_at ts x ≡ Open
+open-fate ts x e = by_found (slice_get ts x) e where
+  by_fate : (f : Fate) → is_open f ≡ true → f ≡ Open
+  by_fate Open h = refl
+  by_fate Committed h = absurd (cc)
+  by_fate Aborted h = absurd (cc)
+
+  by_found : (o : Option Started) → option_map_or (λ (t : Started). is_open t.fate) o false ≡ true → fate_of o ≡ Open
+  by_found None h = absurd (cc)
+  by_found (Some t) h = by_fate t.fate h
+
+-- a transaction that has ended, in what snapshots see
+pub end-is_seen : (before after : List Started) (x : ℕ) (t : Started) (fate : Fate) → slice_get before x ≡ Some t → is_open_at before x ≡ true → is_open fate ≡ false
+    → after ≡ slice_set before x (record t { fate = fate }) → EndIsSeen before after x fate
+end-is_seen before after x t fate got undecided ended set = record {
+  later = λ e own. by_taken own e;
+  earlier = λ own differ. seen-said (taken before own) after x (sees (taken before own) after x) refl before refl on ∙ rw (apart x own differ, was_open) refl;
+  never = λ e snapshot differ. unseen snapshot after x differ (ap is_committed (now ∙ e));
+  others = λ snapshot other differ. sees-other snapshot before after other (ap (λ (ts : List Started). fate_at ts other) set ∙ fate-others before x other (record t { fate = fate }) differ);
+} where
+  u : Started
+  u = record t { fate = fate }
+
+  was_open : fate_at before x ≡ Open
+  was_open = open-fate before x undecided
+
+  now : fate_at after x ≡ fate
+  now = ap (λ (ts : List Started). fate_at ts x) set ∙ fate-ended before x t u got
+
+  on : GoesOn before after
+  on = subst (GoesOn before) (sym set) (goes_on-ended before x u was_open)
+
+  same : GoesOn after after
+  same = record { longer = omega arith; committed = λ y h. h; aborted = λ y h. h }
+
+  by_taken : (own : ℕ) → fate ≡ Committed → sees (taken after own) after x ≡ true
+  by_taken own e = seen-said (taken after own) after x (sees (taken after own) after x) refl after refl same ∙ or_right (x == own) _ (ap is_committed (now ∙ e))

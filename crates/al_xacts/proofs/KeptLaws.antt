@@ -1,19 +1,20 @@
 -- What is kept beside the transactions and the marks goes on to agree with them.
-use Rattle.std.proofs.Common.{◌≡◌, ℕ, ◌+◌, ◌-◌, ◌<◌, ◌≤◌, ◌^◌, Bool, true, false, cond, not, ◌||◌, ◌&&◌, ◌==◌, List, [], ◌∷◌, ◌++◌, length, filter, refl, sym, ap, ◌∙◌, subst, arith, nat_eq, slice_get, slice_set, unwrap_or, Option, Some, None, zero, suc, ◌⊎◌, inl, inr, ⊎_elim, length-append, eq-eqb, get_or}
+use Rattle.std.proofs.Common.{◌≡◌, ℕ, ◌+◌, ◌-◌, ◌<◌, ◌≤◌, ◌^◌, Bool, true, false, cond, not, ◌||◌, ◌&&◌, ◌==◌, List, [], ◌∷◌, ◌++◌, length, filter, refl, sym, ap, ◌∙◌, subst, arith, nat_eq, nat_le, slice_get, slice_set, unwrap_or, Option, Some, zero, suc, ◌⊎◌, inl, inr, ⊎_elim, length-append, eq-eqb, get_or}
 use Rattle.std.proofs.Math.ListN.{length-set}
 use Rattle.std.specs.List.{list_any}
-use Rattle.std.proofs.lemmas.Bool.{or_parts, or_cases, or_left, or_right, eqb-true, both_ways, cases_eq, ne_eqb}
+use Rattle.std.proofs.lemmas.Bool.{and_parts, or_cases, or_left, or_right, eqb-true, both_ways, leb-true, le-leb}
 use Rattle.std.proofs.lemmas.List.Folds.{list_any-append}
 use Rattle.std.proofs.lemmas.Option.{none-some, slice_get_read}
 use Rattle.al_modes.specs.declared.row_mode.RowMode.{RowMode}
+use Rattle.al_modes.specs.declared.row_mode.RowMode.TheVariants.{KeyShare, Share, NoKeyUpdate, Update}
+use Rattle.al_modes.specs.RowConflicts.{row_conflict}
 use Rattle.al_xacts.specs.declared.xact.Mark.{Mark}
 use Rattle.al_xacts.specs.declared.xact.Started.{Started}
-use Rattle.std.specs.Option.{option_map_or}
 use Rattle.al_xacts.specs.declared.xact.Fate.{Fate}
-use Rattle.al_xacts.specs.declared.xact.Fate.TheVariants.{Open, Committed, Aborted}
-use Rattle.al_xacts.specs.Fates.{fate_of, fate_at, is_open, is_open_at, open_from}
-use Rattle.al_xacts.specs.Marks.{marks_in, covers, with_mark, without_marks, ChangesMarks}
-use Rattle.al_xacts.specs.Kept.{Kept, has_mark, IsKept, IsFinished}
+use Rattle.al_xacts.specs.declared.xact.Fate.TheVariants.{Open}
+use Rattle.al_xacts.specs.Fates.{is_open, is_open_at, open_from}
+use Rattle.al_xacts.specs.Marks.{marks_in, strength, covers, has_conflict, with_mark, without_marks, ChangesMarks}
+use Rattle.al_xacts.specs.Kept.{Kept, has_mark, marks_on, IsKept, IsMarked, IsFinished, MarkCounts, MarksEnd}
 use Rattle.al_xacts.proofs.FateLaws.{open_from-push, open_at-push, open_at-others, open_from-ended}
 use Rattle.al_xacts.proofs.MarkLaws.{dropped-none}
 
@@ -150,17 +151,6 @@ finished-marks ts os rs ms after x r kept got drops row =
     let same : rows_of rs x ≡ r = ap (λ (o : Option (List ℕ)). unwrap_or o []) got in
     drops row ∙ ap (λ (l : List ℕ). cond (list_any (nat_eq row) l) (without_marks x (marks_in ms row)) (marks_in ms row)) (sym same) ∙ all-dropped ts os rs ms x row kept
 
-pub open-fate : (ts : List Started) (x : ℕ) → is_open_at ts x ≡ true → fate_at ts x ≡ Open
-open-fate ts x e = by_found (slice_get ts x) e where
-  by_fate : (f : Fate) → is_open f ≡ true → f ≡ Open
-  by_fate Open h = refl
-  by_fate Committed h = absurd (cc)
-  by_fate Aborted h = absurd (cc)
-
-  by_found : (o : Option Started) → option_map_or (λ (t : Started). is_open t.fate) o false ≡ true → fate_of o ≡ Open
-  by_found None h = absurd (cc)
-  by_found (Some t) h = by_fate t.fate h
-
 -- what an end leaves, said of the whole
 pub finished-said : (before : Kept) (transactions : List Started) (marks : List (ℕ × List Mark)) (x : ℕ) (t : Started) (fate : Fate) → slice_get before.transactions x ≡ Some t
     → transactions ≡ slice_set before.transactions x (record t { fate = fate }) → ((row : ℕ) → marks_in marks row ≡ without_marks x (marks_in before.marks row))
@@ -170,3 +160,106 @@ finished-said before transactions marks x t fate got set drops = record {
   transactions = rw got set;
   marks = drops;
 }
+
+-- ---- whom marks stop
+
+conflict-sum : (a c : RowMode) → row_conflict a c ≡ nat_le 3 (strength a + strength c)
+conflict-sum KeyShare KeyShare = refl
+conflict-sum KeyShare Share = refl
+conflict-sum KeyShare NoKeyUpdate = refl
+conflict-sum KeyShare Update = refl
+conflict-sum Share KeyShare = refl
+conflict-sum Share Share = refl
+conflict-sum Share NoKeyUpdate = refl
+conflict-sum Share Update = refl
+conflict-sum NoKeyUpdate KeyShare = refl
+conflict-sum NoKeyUpdate Share = refl
+conflict-sum NoKeyUpdate NoKeyUpdate = refl
+conflict-sum NoKeyUpdate Update = refl
+conflict-sum Update KeyShare = refl
+conflict-sum Update Share = refl
+conflict-sum Update NoKeyUpdate = refl
+conflict-sum Update Update = refl
+
+-- a mode that is as strong conflicts with as much
+conflict-stronger : (a b c : RowMode) → nat_le (strength a) (strength b) ≡ true → row_conflict a c ≡ true → row_conflict b c ≡ true
+conflict-stronger a b c e f =
+    let below : strength a ≤ strength b = leb-true (strength a) (strength b) e in
+    let sum : 3 ≤ strength a + strength c = leb-true 3 (strength a + strength c) (sym (conflict-sum a c) ∙ f) in
+    conflict-sum b c ∙ le-leb 3 (strength b + strength c) (omega arith)
+
+covered-conflict : (new : Mark) (marks : List Mark) (y : ℕ) (mode : RowMode) → list_any (covers new) marks ≡ true → ((new.xact == y) && row_conflict new.mode mode) ≡ true → has_conflict y mode marks ≡ true
+covered-conflict new [] y mode e f = absurd (cc)
+covered-conflict new (m ∷ marks) y mode e f =
+    ⊎_elim (λ h. or_left ((m.xact == y) && row_conflict m.mode mode) _ (here (and_parts (m.xact == new.xact) _ h))) (λ h. or_right ((m.xact == y) && row_conflict m.mode mode) _ (covered-conflict new marks y mode h f))
+    (or_cases (covers new m) (list_any (covers new) marks) e) where
+      wanted : ((new.xact == y) ≡ true) × (row_conflict new.mode mode ≡ true)
+      wanted = and_parts (new.xact == y) (row_conflict new.mode mode) f
+
+      here : ((m.xact == new.xact) ≡ true) × (nat_le (strength new.mode) (strength m.mode) ≡ true) → ((m.xact == y) && row_conflict m.mode mode) ≡ true
+      here h = rw (eq-eqb m.xact y (eqb-true m.xact new.xact h.0 ∙ eqb-true new.xact y wanted.0)) (conflict-stronger new.mode m.mode mode h.1 wanted.1)
+
+or-false : (b : Bool) → (b || false) ≡ b
+or-false true = refl
+or-false false = refl
+
+conflict-with : (new : Mark) (marks : List Mark) (y : ℕ) (mode : RowMode)
+    → has_conflict y mode (with_mark new marks) ≡ (has_conflict y mode marks || ((new.xact == y) && row_conflict new.mode mode))
+conflict-with new marks y mode = by_covered (list_any (covers new) marks) refl where
+  test : Mark → Bool
+  test m = (m.xact == y) && row_conflict m.mode mode
+
+  absorbed : (a b : Bool) → (b ≡ true → a ≡ true) → a ≡ (a || b)
+  absorbed true b h = refl
+  absorbed false true h = h refl
+  absorbed false false h = refl
+
+  by_covered : (b : Bool) → list_any (covers new) marks ≡ b → has_conflict y mode (cond b marks (marks ++ new ∷ [])) ≡ (has_conflict y mode marks || ((new.xact == y) && row_conflict new.mode mode))
+  by_covered true e = absorbed (has_conflict y mode marks) _ (covered-conflict new marks y mode e)
+  by_covered false e = rw list_any-append (rw or-false refl)
+
+pub mark-counts : (before after : Kept) (row : ℕ) (mark : Mark) → IsMarked before after row mark → MarkCounts before after row mark
+mark-counts before after row mark h other x mode = ap (has_conflict x mode) (h.marks other) ∙ by_row (nat_eq other row) where
+  by_row : (b : Bool) → has_conflict x mode (cond b (with_mark mark (marks_in before.marks other)) (marks_in before.marks other))
+      ≡ (has_conflict x mode (marks_in before.marks other) || (b && ((mark.xact == x) && row_conflict mark.mode mode)))
+  by_row true = conflict-with mark (marks_in before.marks other) x mode
+  by_row false = sym (or-false (has_conflict x mode (marks_in before.marks other)))
+
+conflict-without : (x y : ℕ) (mode : RowMode) (marks : List Mark) → has_conflict y mode (without_marks x marks) ≡ (not (y == x) && has_conflict y mode marks)
+conflict-without x y mode [] = none (not (y == x)) where
+  none : (b : Bool) → false ≡ (b && false)
+  none true = refl
+  none false = refl
+conflict-without x y mode (m ∷ marks) = by_mark (m.xact == x) refl (conflict-without x y mode marks) where
+  other : (b c : Bool) → (m.xact == y) ≡ b → (m.xact == x) ≡ true → (not (y == x) && c) ≡ (not (y == x) && ((b && row_conflict m.mode mode) || c))
+  other true c e f = rw (eq-eqb y x (sym (eqb-true m.xact y e) ∙ eqb-true m.xact x f)) refl
+  other false c e f = refl
+
+  kept : (b c : Bool) → (m.xact == y) ≡ b → (m.xact == x) ≡ false → ((b && row_conflict m.mode mode) || (not (y == x) && c)) ≡ (not (y == x) && ((b && row_conflict m.mode mode) || c))
+  kept true c e f = rw (subst (λ (n : ℕ). (n == x) ≡ false) (eqb-true m.xact y e) f) refl
+  kept false c e f = refl
+
+  by_mark : (b : Bool) → (m.xact == x) ≡ b → has_conflict y mode (without_marks x marks) ≡ (not (y == x) && has_conflict y mode marks)
+      → has_conflict y mode (cond (not b) (m ∷ without_marks x marks) (without_marks x marks)) ≡ (not (y == x) && (((m.xact == y) && row_conflict m.mode mode) || has_conflict y mode marks))
+  by_mark true f more = more ∙ other (m.xact == y) (has_conflict y mode marks) refl f
+  by_mark false f more = ap (λ (b : Bool). ((m.xact == y) && row_conflict m.mode mode) || b) more ∙ kept (m.xact == y) (has_conflict y mode marks) refl f
+
+pub marks-end : (before after : Kept) (x : ℕ) (fate : Fate) → IsFinished before after x fate → MarksEnd before after x
+marks-end before after x fate h row other mode = ap (has_conflict other mode) (h.marks row) ∙ conflict-without x other mode (marks_on before row)
+
+-- a mark that is covered changes nothing
+pub covered-marked : (kept : Kept) (row : ℕ) (mark : Mark) → list_any (covers mark) (marks_on kept row) ≡ true → IsMarked kept kept row mark
+covered-marked kept row mark e = record {
+  sessions = refl;
+  transactions = refl;
+  marks = λ other. by_row other (nat_eq other row) refl;
+} where
+  by_row : (other : ℕ) (b : Bool) → nat_eq other row ≡ b → marks_in kept.marks other ≡ cond b (with_mark mark (marks_in kept.marks other)) (marks_in kept.marks other)
+  by_row other true f =
+      let here : list_any (covers mark) (marks_in kept.marks other) ≡ true = subst (λ (n : ℕ). list_any (covers mark) (marks_in kept.marks n) ≡ true) (sym (eqb-true other row f)) e in rw here refl
+  by_row other false f = refl
+
+-- what a mark leaves, said of the whole
+pub marked-said : (before : Kept) (marks : List (ℕ × List Mark)) (row : ℕ) (mark : Mark) → ChangesMarks before.marks marks row (with_mark mark)
+    → IsMarked before (record { sessions = before.sessions; transactions = before.transactions; marks = marks }) row mark
+marked-said before marks row mark changes = record { sessions = refl; transactions = refl; marks = changes }

@@ -3,3 +3,4 @@ pub mod KeptLaws
 pub mod Least
 pub mod MarkLaws
 pub mod Retained
+pub mod Vectors

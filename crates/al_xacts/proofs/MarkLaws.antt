@@ -1,11 +1,8 @@
 -- How a row's marks change.
-use Rattle.std.proofs.Common.{◌≡◌, ℕ, ◌+◌, ◌<◌, ◌≤◌, Bool, true, false, cond, not, ◌||◌, ◌&&◌, ◌==◌, List, [], ◌∷◌, ◌++◌, length, filter, refl, sym, ap, ◌∙◌, subst, arith, take, get_or, nat_eq}
-use Rattle.std.specs.List.{list_any}
-use Rattle.std.proofs.lemmas.Bool.{or_parts, or_from, eqb-true}
-use Rattle.std.proofs.lemmas.List.Folds.{list_any-append}
-use Rattle.al_modes.specs.declared.row_mode.RowMode.{RowMode}
+use Rattle.std.proofs.Common.{◌≡◌, ℕ, Bool, true, false, cond, not, ◌||◌, ◌==◌, List, [], ◌∷◌, refl, ap, ◌∙◌}
+use Rattle.std.proofs.lemmas.Bool.{or_parts}
 use Rattle.al_xacts.specs.declared.xact.Mark.{Mark}
-use Rattle.al_xacts.specs.Marks.{marks_in, with_mark, without_marks, ChangesMarks}
+use Rattle.al_xacts.specs.Marks.{without_marks}
 use Rattle.al_xacts.specs.Kept.{has_mark}
 
 -- marks that were dropped are gone

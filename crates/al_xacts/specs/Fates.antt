@@ -21,6 +21,10 @@ abbrev pub is_committed : Fate → Bool
 is_committed Committed = true
 is_committed other = false
 
+abbrev pub is_aborted : Fate → Bool
+is_aborted Aborted = true
+is_aborted other = false
+
 -- a transaction has started and not ended
 abbrev pub is_open_at : List Started → ℕ → Bool
 is_open_at transactions x = option_map_or (λ transaction. is_open transaction.fate) (slice_get transactions x) false

@@ -1,11 +1,13 @@
 -- What is kept of the transactions (13.2, 13.3.2).
-use Rattle.std.specs.Prelude.{◌≡◌, ℕ, ◌<◌, ◌^◌, List, [], Bool, true, ◌==◌, unwrap_or, nat_eq, length, slice_get}
+use Rattle.std.specs.Prelude.{◌≡◌, ℕ, ◌<◌, ◌^◌, List, [], Bool, true, not, ◌&&◌, ◌||◌, ◌==◌, unwrap_or, nat_eq, length, slice_get}
 use Rattle.std.specs.List.{list_any}
+use Rattle.al_modes.specs.declared.row_mode.RowMode.{RowMode}
+use Rattle.al_modes.specs.RowConflicts.{row_conflict}
 use Rattle.al_xacts.specs.declared.xact.Started.{Started}
 use Rattle.al_xacts.specs.declared.xact.Fate.{Fate}
 use Rattle.al_xacts.specs.declared.xact.Mark.{Mark}
 use Rattle.al_xacts.specs.Fates.{is_open_at, open_from, Ends}
-use Rattle.al_xacts.specs.Marks.{marks_in, ChangesMarks, with_mark, without_marks}
+use Rattle.al_xacts.specs.Marks.{marks_in, has_conflict, ChangesMarks, with_mark, without_marks}
 
 -- the number of sessions, which count from 0; the transactions in order of start, so that a transaction's number is its
 -- place; and for each row that has marks these, oldest first
@@ -42,3 +44,14 @@ pub record IsFinished (before after : Kept) (x : ℕ) (fate : Fate) : Type 0 whe
   pub sessions : after.sessions ≡ before.sessions
   pub transactions : Ends before.transactions after.transactions x fate
   pub marks : (row : ℕ) → marks_on after row ≡ without_marks x (marks_on before row)
+
+-- so a request is stopped by the new mark too
+abbrev pub MarkCounts : Kept → Kept → ℕ → Mark → Type 0
+MarkCounts before after row mark =
+    (other x : ℕ) (mode : RowMode) → has_conflict x mode (marks_on after other)
+    ≡ (has_conflict x mode (marks_on before other) || (nat_eq other row && ((mark.xact == x) && row_conflict mark.mode mode)))
+
+-- and by no mark of a transaction that has ended
+abbrev pub MarksEnd : Kept → Kept → ℕ → Type 0
+MarksEnd before after x =
+    (row other : ℕ) (mode : RowMode) → has_conflict other mode (marks_on after row) ≡ (not (other == x) && has_conflict other mode (marks_on before row))

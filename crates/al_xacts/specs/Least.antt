@@ -1,5 +1,5 @@
 -- The least transaction that is in the way of a mark, found by going through a row's marks.
-use Rattle.std.specs.Prelude.{ℕ, min, if◌then◌else◌, List, Option, Some, None, fold}
+use Rattle.std.specs.Prelude.{ℕ, min, if◌then◌else◌, Option, Some, None, fold}
 use Rattle.std.specs.Option.{option_map_or}
 use Rattle.al_modes.specs.declared.row_mode.RowMode.{RowMode}
 use Rattle.al_xacts.specs.declared.xact.Mark.{Mark}

@@ -1,5 +1,5 @@
 -- The marks of rows (13.3.2), and who is in the way of a new one.
-use Rattle.std.specs.Prelude.{◌≡◌, ◌≤◌, ℕ, List, [], ◌∷◌, ◌++◌, Bool, true, false, cond, not, ◌&&◌, ◌||◌, ◌==◌, if◌then◌else◌, Option, Some, None, IsTrue, unwrap_or, filter, nat_eq, nat_le}
+use Rattle.std.specs.Prelude.{◌≡◌, ◌≤◌, ℕ, List, [], ◌∷◌, ◌++◌, Bool, not, ◌&&◌, ◌==◌, if◌then◌else◌, IsTrue, unwrap_or, filter, nat_eq, nat_le}
 use Rattle.std.specs.List.{list_any}
 use Rattle.std.specs.Map.{lookup}
 use Rattle.al_modes.specs.declared.row_mode.RowMode.{RowMode}
@@ -15,13 +15,13 @@ marks_in entries row = unwrap_or (lookup (nat_eq row) entries) []
 abbrev pub stops : ℕ → RowMode → Mark → Bool
 stops x mode mark = not (mark.xact == x) && row_conflict mark.mode mode
 
--- a transaction's mark that stops another's request
-abbrev pub is_stop_of : ℕ → ℕ → RowMode → Mark → Bool
-is_stop_of by x mode mark = (mark.xact == by) && stops x mode mark
+-- a transaction has a mark among these that conflicts with a mode
+abbrev pub has_conflict : ℕ → RowMode → List Mark → Bool
+has_conflict x mode marks = list_any (λ mark. (mark.xact == x) && row_conflict mark.mode mode) marks
 
--- a transaction has a mark among these that stops another's request
+-- a transaction makes another's request for a mode wait
 abbrev pub makes_wait : List Mark → ℕ → RowMode → ℕ → Bool
-makes_wait marks x mode by = list_any (is_stop_of by x mode) marks
+makes_wait marks x mode by = not (by == x) && has_conflict by mode marks
 
 -- the least number that passes a test
 abbrev pub IsLeast : (ℕ → Bool) → ℕ → Type 0
@@ -50,7 +50,3 @@ without_marks x marks = filter (λ mark. not (mark.xact == x)) marks
 abbrev pub ChangesMarks : List (ℕ × List Mark) → List (ℕ × List Mark) → ℕ → (List Mark → List Mark) → Type 0
 ChangesMarks before after row change =
     (other : ℕ) → marks_in after other ≡ (if nat_eq other row then change (marks_in before other) else marks_in before other)
-
--- a transaction has a mark among these that conflicts with a mode
-abbrev pub has_conflict : ℕ → RowMode → List Mark → Bool
-has_conflict x mode marks = list_any (λ mark. (mark.xact == x) && row_conflict mark.mode mode) marks

@@ -26,7 +26,12 @@ impl Snapshot {
     ghost use Rattle.al_xacts.specs.Snapshots.{Taken};
 
     // The snapshot for a transaction, when so many have started and these of them are open.
-    pub(crate) fn of(alloc: Global, own: u32, end: u32, open_ones: &[u32]) -> Result<Snapshot, NoMemory>
+    pub(crate) fn of(
+        alloc: Global,
+        own: u32,
+        end: u32,
+        open_ones: &[u32],
+    ) -> Result<Snapshot, NoMemory>
         ensures { IfOk result (λ s. s ≡ record { own = own; end = end; open_ones = open_ones.now }) }
     {
         Ok(Snapshot {
@@ -49,9 +54,7 @@ impl Snapshot {
     {
         let number = x.number();
         number == self.own
-            || number < self.end
-                && !self.open_ones.contains(&number)
-                && xacts.is_committed(x)
+            || number < self.end && !self.open_ones.contains(&number) && xacts.is_committed(x)
     }
 }
 

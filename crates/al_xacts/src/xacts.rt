@@ -1,7 +1,7 @@
 ghost use Rattle.std.specs.Prelude.{ℕ, ◌≡◌, [], ◌∷◌, ◌++◌, ◌<◌, ◌↔◌, true, false, None, IfOk, OnOk, IfSome, OnErr, length, slice_get};
-ghost use Rattle.al_xacts.specs.Kept.{marks_on, IsMarked, IsFinished};
-ghost use Rattle.al_xacts.specs.Fates.{fate_at, is_open, is_open_at, is_committed, GoesOn};
-ghost use Rattle.al_xacts.specs.Snapshots.{taken};
+ghost use Rattle.al_xacts.specs.Kept.{marks_on, IsMarked, IsFinished, MarkCounts, MarksEnd};
+ghost use Rattle.al_xacts.specs.Fates.{fate_at, is_open, is_open_at, is_committed, is_aborted, GoesOn};
+ghost use Rattle.al_xacts.specs.Snapshots.{taken, EndIsSeen};
 ghost use Rattle.al_xacts.specs.Marks.{makes_wait, IsLeast};
 ghost use Rattle.al_xacts.specs.Least.{in_way, answer};
 
@@ -80,7 +80,24 @@ impl Xacts {
         self.fate(x) == Fate::Committed
     }
 
-    /// The session of a transaction and its isolation level.
+    /// Whether a transaction was rolled back.
+    pub fn is_aborted(&self, x: Xact) -> bool
+        ensures { result ≡ is_aborted (fate_at self.now.transactions x) }
+    {
+        self.fate(x) == Fate::Aborted
+    }
+
+    /// Whether a transaction has started and not ended.
+    pub fn is_open(&self, x: Xact) -> bool
+        ensures { result ≡ is_open_at self.now.transactions x }
+    {
+        match self.transactions.get(x.number() as usize) {
+            Some(transaction) => transaction.fate == Fate::Open,
+            None => false,
+        }
+    }
+
+    /// What a transaction was started with, and its fate; None exactly where it hasn't started.
     pub fn started(&self, x: Xact) -> Option<Started>
         ensures { result ≡ slice_get self.now.transactions x }
     {
@@ -144,10 +161,17 @@ impl Xacts {
     /// # Errors
     ///
     /// Want of memory. Then nothing has changed.
-    pub fn mark(&mut self, alloc: Global, x: Xact, row: u32, mode: RowMode) -> Result<Marked, NoMemory>
+    pub fn mark(
+        &mut self,
+        alloc: Global,
+        x: Xact,
+        row: u32,
+        mode: RowMode,
+    ) -> Result<Marked, NoMemory>
         requires { is_open_at self.old.transactions x ≡ true }
         ensures answer { IfOk result (λ a. a ≡ answer (in_way self.old x row mode)) }
         ensures done { result ≡ Ok Marked.Done → IsMarked self.old self.new row (record { xact = x; mode = mode }) }
+        ensures counts { result ≡ Ok Marked.Done → MarkCounts self.old self.new row (record { xact = x; mode = mode }) }
         ensures held { (by : ℕ) → result ≡ Ok (Marked.Held by) → self.new ≡ self.old }
         ensures err { OnErr result (self.new ≡ self.old) }
     {
@@ -171,6 +195,8 @@ impl Xacts {
         requires undecided { is_open_at self.old.transactions x ≡ true }
         requires ends { is_open fate ≡ false }
         ensures finished { IsFinished self.old self.new x fate }
+        ensures seen { EndIsSeen self.old.transactions self.new.transactions x fate }
+        ensures marks_end { MarksEnd self.old self.new x }
         ensures goes_on { GoesOn self.old.transactions self.new.transactions }
     {
         let at = x.number() as usize;

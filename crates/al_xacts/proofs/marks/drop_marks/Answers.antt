@@ -1,4 +1,4 @@
-use Rattle.std.proofs.Common.{arith, nat_eq, ◌<◌, length}
+use Rattle.std.proofs.Common.{arith, nat_eq}
 use Rattle.std.proofs.lemmas.List.Folds.{list_any_more}
 use Rattle.al_xacts.proofs.MarkLaws.{dropped-more}
 use Rattle.al_xacts.proofs.marks.drop_marks.Goals as goal

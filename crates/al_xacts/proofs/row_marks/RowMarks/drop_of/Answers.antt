@@ -1,6 +1,5 @@
-use Rattle.std.proofs.Common.{rules, not, ◌==◌, subst, ◌≡◌, List}
+use Rattle.std.proofs.Common.{rules, not, ◌==◌}
 use Rattle.al_xacts.specs.declared.xact.Mark.{Mark}
-use Rattle.al_xacts.specs.Marks.{without_marks}
 use Rattle.al_xacts.proofs.Retained.{filter-from_retain}
 use Rattle.al_xacts.proofs.row_marks.RowMarks.drop_of.Goals as goal
 

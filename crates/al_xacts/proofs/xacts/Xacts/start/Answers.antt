@@ -1,8 +1,7 @@
-use Rattle.std.proofs.Common.{arith, refl, ◌∙◌, List, ℕ}
+use Rattle.std.proofs.Common.{arith, refl}
 use Rattle.std.proofs.lemmas.Grind.{common_steps}
 use Rattle.al_xacts.specs.declared.xact.Fate.TheVariants.{Open}
 use Rattle.al_xacts.specs.declared.xact.Started.{Started}
-use Rattle.al_xacts.specs.Fates.{GoesOn}
 use Rattle.al_xacts.proofs.KeptLaws.{kept-started}
 use Rattle.al_xacts.proofs.FateLaws.{goes_on-push}
 use Rattle.al_xacts.proofs.xacts.Xacts.start.Goals as goal
