@@ -125,10 +125,10 @@ kept-pushed vs more es links rs after v before kept room p q r found = rw (p, r)
   by_place place w got h = ⊎_elim
       (λ below. rw (get-push es before place (omega (arith, kept.each)), last-push (is_of w.row) vs v place (omega arith)) (kept.linked place w (sym (get-push vs v place below) ∙ got)))
       (λ above. ⊎_elim (λ e. at_end place w e got) (λ differ. absurd (none-some w (sym (get-past vs v place (omega arith)) ∙ got))) (cases_eq place (length vs))) h where
-    at_end : (place : ℕ) (w : Stored) → place ≡ length vs → slice_get (vs ++ v ∷ []) place ≡ Some w → slice_get (es ++ before ∷ []) place ≡ Some (last_below (is_of w.row) (vs ++ v ∷ []) place)
-    at_end place w e got = rw (e, last-push (is_of w.row) vs v (length vs) (omega arith)) (rw (← kept.each) (get-pushed es before) ∙ ap Some (q ∙ ap (λ (u : Stored). newest vs u.row) same)) where
-      same : v ≡ w
-      same = same_Some v w (sym (get-pushed vs v) ∙ subst (λ (n : ℕ). slice_get (vs ++ v ∷ []) n ≡ Some w) e got)
+        at_end : (place : ℕ) (w : Stored) → place ≡ length vs → slice_get (vs ++ v ∷ []) place ≡ Some w → slice_get (es ++ before ∷ []) place ≡ Some (last_below (is_of w.row) (vs ++ v ∷ []) place)
+        at_end place w e got = rw (e, last-push (is_of w.row) vs v (length vs) (omega arith)) (rw (← kept.each) (get-pushed es before) ∙ ap Some (q ∙ ap (λ (u : Stored). newest vs u.row) same)) where
+          same : v ≡ w
+          same = same_Some v w (sym (get-pushed vs v) ∙ subst (λ (n : ℕ). slice_get (vs ++ v ∷ []) n ≡ Some w) e got)
 
 pub kept-set : (vs : List Stored) (es : List (Option ℕ)) (rs : List (ℕ × ℕ)) (p : ℕ) (v w : Stored) → slice_get vs p ≡ Some v → w.row ≡ v.row → IsKept vs es rs → IsKept (slice_set vs p w) es rs
 kept-set vs es rs p v w got same kept = record {

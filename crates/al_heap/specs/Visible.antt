@@ -26,10 +26,10 @@ own_or_committed transactions own x = (x == own) || is_committed (fate_at transa
 abbrev pub VisibleAsTaken : Taken → List Started → Stored → Bool → Type 0
 VisibleAsTaken snapshot transactions version visible =
     (before : List Started) → snapshot ≡ taken before snapshot.own → GoesOn before transactions
-        → visible ≡ is_there_for (own_or_committed before snapshot.own) version
+    → visible ≡ is_there_for (own_or_committed before snapshot.own) version
 
 -- and a remover that was rolled back, other than the snapshot's own, hides nothing
 abbrev pub ThereAgain : Taken → List Started → Stored → Bool → Type 0
 ThereAgain snapshot transactions version visible =
     (remover : ℕ) → version.remover ≡ Some remover → (remover ≡ snapshot.own → ⊥) → is_aborted (fate_at transactions remover) ≡ true
-        → visible ≡ sees snapshot transactions version.maker
+    → visible ≡ sees snapshot transactions version.maker

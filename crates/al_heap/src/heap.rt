@@ -162,7 +162,13 @@ impl Heap {
     }
 
     // Adds the version that follows a change, if there are values.
-    fn follow(&mut self, x: Xact, row: u32, number: u32, values: Option<Row>) -> Result<(), NoMemory>
+    fn follow(
+        &mut self,
+        x: Xact,
+        row: u32,
+        number: u32,
+        values: Option<Row>,
+    ) -> Result<(), NoMemory>
         ensures ok { OnOk result (self.new ≡ with_version row number x values self.old) }
         ensures err { OnErr result (self.new ≡ self.old) }
         ensures removal { values ≡ None → IsOk result }
