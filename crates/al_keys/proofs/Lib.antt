@@ -1,0 +1,3 @@
+pub mod Bisection
+pub mod OrderLaws
+pub mod SoughtLaws
