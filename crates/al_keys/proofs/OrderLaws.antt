@@ -73,8 +73,8 @@ equal-same (a ∷ xs) (b ∷ ys) e =
     let here = equal-value a b (is_equal-some (compared a b) parts.0) in
     let rest = equal-same xs ys parts.1 in
     (joined a b xs ys here.0 rest.0, rw here.1 rest.1) where
-  joined : (a b : Value) (xs ys : List Value) → a ≡ b → xs ≡ ys → a ∷ xs ≡ b ∷ ys
-  joined a b xs ys e f = cc
+      joined : (a b : Value) (xs ys : List Value) → a ≡ b → xs ≡ ys → a ∷ xs ≡ b ∷ ys
+      joined a b xs ys e f = cc
 
 value-itself : (a : Value) → is_null a ≡ false → is_equal (compared a a) ≡ true
 value-itself values.Null e = absurd (cc)

@@ -70,4 +70,4 @@ is_changeable transactions x version =
 abbrev pub can_leave : List Started → List Entry → List Value → ℕ → ℕ → Bool
 can_leave transactions entries key row x =
     has_null key
-        || option_map_or (λ place. passes (is_changeable transactions x) (slice_get (versions_in entries key) place)) (standing transactions (versions_in entries key) row) false
+    || option_map_or (λ place. passes (is_changeable transactions x) (slice_get (versions_in entries key) place)) (standing transactions (versions_in entries key) row) false

@@ -21,13 +21,7 @@ fn number_of(value: &Value) -> i64
     ensures { result ≡ number_of value.now }
 {
     match value {
-        Value::Bool(truth) => {
-            if *truth {
-                1
-            } else {
-                0
-            }
-        }
+        Value::Bool(truth) => { if *truth { 1 } else { 0 } }
         Value::Int(number) => *number,
         Value::Day(day) => i64::from(*day),
         _ => 0,
