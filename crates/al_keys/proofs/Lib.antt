@@ -1,0 +1,4 @@
+pub mod Bisection
+pub mod OrderLaws
+pub mod SoughtLaws
+pub mod Vectors

@@ -1,0 +1,4 @@
+pub mod Order
+pub mod Keys
+pub mod Sought
+pub mod Kept
