@@ -1,3 +1,4 @@
 pub mod WordLaws
 pub mod TypeLaws
 pub mod ExpressionLaws
+pub mod NameKinds

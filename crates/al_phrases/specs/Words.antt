@@ -1,12 +1,12 @@
 -- Words, names and signs of SQL as rules over tokens (4.1.1).
 use Rattle.std.specs.Prelude.{ℕ, Bool, true, false, List, [], ◌∷◌, Option, Some, None}
-use Rattle.al_grammar.specs.Rules.{Shape, Rule, leaf, leaf_shape, pair, both, listed, list_shape, optional, at_most_once, mapped}
+use Rattle.al_grammar.specs.Gives.{many_from}
+use Rattle.al_grammar.specs.Rules.{Shape, Step, Rule, next_item, leaf, leaf_shape, pair, both, listed, list_shape, optional, at_most_once, mapped}
 use Rattle.al_phrases.specs.declared.lexeme.Lexeme.{Lexeme}
 use Rattle.al_phrases.specs.Kinds.{names, comma}
 
 infixr 20 ◌▸◌
 infixr 20 ◌◂◌
-
 abbrev pub kind_of : Lexeme → ℕ
 kind_of t = t.kind
 
@@ -49,3 +49,10 @@ comma_list p = listed kind_of (word comma) p
 -- names := name { "," name }
 unfoldable pub name_list : Rule Lexeme (comma_shape name_shape) (List (List ℕ))
 name_list = comma_list name
+
+-- a comma and a name, and what is read of a list behind the names so far
+unfoldable pub next_name : Rule Lexeme (both (one_of comma) name_shape) (List ℕ)
+next_name = next_item (word comma) name
+
+unfoldable pub names_from : List (List ℕ) → List Lexeme → Step Lexeme (List (List ℕ))
+names_from so_far ts = many_from kind_of next_name so_far ts
