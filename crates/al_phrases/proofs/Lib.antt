@@ -2,3 +2,4 @@ pub mod WordLaws
 pub mod TypeLaws
 pub mod ExpressionLaws
 pub mod NameKinds
+mod Vectors

@@ -357,9 +357,12 @@ abbrev pub is_free : ℕ → Bool
 is_free zero = false
 is_free (suc depth) = true
 
+abbrev pub around : Bool → Inner → Inner
+around free inner = record { whole = ors_at free inner; negated = nots_at free inner; signed = signs_at free inner }
+
 abbrev pub inside : ℕ → Inner
 inside zero = flat
-inside (suc depth) = record { whole = ors_at (is_free depth) (inside depth); negated = nots_at (is_free depth) (inside depth); signed = signs_at (is_free depth) (inside depth) }
+inside (suc depth) = around (is_free depth) (inside depth)
 
 -- expr := and { OR and }, and := not { AND not }, and cat, which has neither comparisons nor NOT, AND and OR
 unfoldable pub expression : ℕ → Rule Lexeme or_shape Expr
