@@ -1,7 +1,7 @@
 -- Expressions are read lawfully, at each depth.
-use Rattle.std.proofs.Common.{◌≡◌, ℕ, zero, suc, pos, Bool, true, false, List, [], ◌∷◌, ◌++◌, Some, refl}
+use Rattle.std.proofs.Common.{◌≡◌, ℕ, zero, suc, Bool, true, false, List, [], ◌∷◌, refl}
 use Rattle.al_grammar.specs.Kinds.{among, apart, within}
-use Rattle.al_grammar.specs.Rules.{Shape, Rule, leaf, leaf_shape, pair, both, optional, many, or, widen, at_most_once}
+use Rattle.al_grammar.specs.Rules.{Shape, Rule, leaf_shape, both, optional, many, at_most_once}
 use Rattle.al_grammar.specs.Laws.{Lawful}
 use Rattle.al_grammar.proofs.Leaf.{lawful_leaf}
 use Rattle.al_grammar.proofs.Pair.{lawful_pair}
@@ -12,12 +12,11 @@ use Rattle.al_expr.specs.declared.tree.Expr.{Expr}
 use Rattle.al_expr.specs.declared.tree.Expr.TheVariants as e
 use Rattle.al_expr.specs.declared.tree.Prefix.TheVariants as prefixes
 use Rattle.al_phrases.specs.declared.lexeme.Lexeme.{Lexeme}
-use Rattle.al_phrases.specs.declared.tail.Tail.{Tail}
 use Rattle.al_phrases.specs.declared.tail.Tail.TheVariants as tails
 use Rattle.al_phrases.specs.Kinds as k
-use Rattle.al_phrases.specs.Words.{kind_of, one_of, word, given, comma_list, comma_shape, ◌▸◌, ◌◂◌}
+use Rattle.al_phrases.specs.Words.{kind_of, word, given, comma_list, comma_shape, ◌▸◌, ◌◂◌}
 use Rattle.al_phrases.specs.Types.{type_name}
-use Rattle.al_phrases.specs.Rows.{Link, extended, prefixed, cast_to, tested, in_turn}
+use Rattle.al_phrases.specs.Rows.{extended, prefixed, cast_to, tested, in_turn}
 use Rattle.al_phrases.specs.Expressions as x
 use Rattle.al_phrases.proofs.WordLaws.{token, lawful_each, lawful_word, lawful_front, lawful_back, lawful_commas, lawful_given}
 use Rattle.al_phrases.proofs.TypeLaws.{lawful_type}

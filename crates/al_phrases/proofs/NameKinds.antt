@@ -2,7 +2,7 @@
 use Rattle.std.proofs.Common.{◌≡◌, ℕ, ◌≤◌, ◌<◌, Bool, true, false, refl, arith}
 use Rattle.al_grammar.specs.Kinds.{among}
 use Rattle.al_grammar.proofs.Spans.{in_span, span_bounds}
-use Rattle.al_phrases.specs.Kinds.{names, column_names}
+use Rattle.al_phrases.specs.Kinds.{names}
 
 pub name_kinds : (k : ℕ) → 60 ≤ k → k < 135 → among k names ≡ true
 name_kinds k low high = in_span k 60 75 low (omega (arith, high))

@@ -1,6 +1,6 @@
 -- Names of kinds are read lawfully.
-use Rattle.std.proofs.Common.{◌≡◌, ℕ, pos, true, false, List, [], ◌∷◌, Some, refl}
-use Rattle.al_grammar.specs.Rules.{optional, pair, or}
+use Rattle.std.proofs.Common.{[], ◌∷◌, refl}
+use Rattle.al_grammar.specs.Rules.{optional}
 use Rattle.al_grammar.specs.Laws.{Lawful}
 use Rattle.al_grammar.proofs.Leaf.{lawful_leaf}
 use Rattle.al_grammar.proofs.Pair.{lawful_pair}

@@ -1,16 +1,14 @@
 -- Small expressions, by computation: how operators bind, and where a level too many is opened.
-use Rattle.std.proofs.Common.{◌≡◌, ℕ, pos, true, false, List, [], ◌∷◌, refl}
+use Rattle.std.proofs.Common.{◌≡◌, ℕ, pos, true, false, [], ◌∷◌, refl}
 use Rattle.al_grammar.specs.Rules.{read, fault}
 use Rattle.al_values.specs.declared.kinds.Kind.TheVariants as kinds
 use Rattle.al_expr.specs.declared.tree.Operator.TheVariants as operators
 use Rattle.al_expr.specs.declared.tree.Comparison.TheVariants as comparisons
 use Rattle.al_expr.specs.declared.tree.Arithmetic.TheVariants as arithmetics
-use Rattle.al_expr.specs.declared.tree.Prefix.TheVariants as prefixes
-use Rattle.al_expr.specs.declared.tree.Expr.{Expr, the_lemmas}
+use Rattle.al_expr.specs.declared.tree.Expr.{the_lemmas}
 use Rattle.al_expr.specs.declared.tree.Expr.TheVariants as e
 use Rattle.al_phrases.specs.declared.lexeme.Lexeme.{Lexeme}
 use Rattle.al_phrases.specs.Kinds as k
-use Rattle.al_phrases.specs.Words.{name}
 use Rattle.al_phrases.specs.Types.{size, sized, varying, varying_text, one_word_kind, type_name}
 use Rattle.al_phrases.specs.Rows.{extended, prefixed, cast_to, tested}
 use Rattle.al_phrases.specs.Expressions.{literal, column, dated, cast_suffix, null_test, expression}

@@ -1,7 +1,7 @@
 -- Words, names and lists of names are read lawfully.
-use Rattle.std.proofs.Common.{◌≡◌, ℕ, pos, true, false, Bool, List, [], ◌∷◌, ◌++◌, Option, Some, refl}
+use Rattle.std.proofs.Common.{◌≡◌, ℕ, pos, true, false, List, [], ◌∷◌, ◌++◌, Some, refl}
 use Rattle.al_grammar.specs.Kinds.{among, apart, starts}
-use Rattle.al_grammar.specs.Rules.{Shape, Rule, read, fault, leaf, pair, both, optional, listed, next_item}
+use Rattle.al_grammar.specs.Rules.{Shape, Rule, read, fault, leaf, both}
 use Rattle.al_grammar.specs.Laws.{Lawful}
 use Rattle.al_grammar.proofs.Leaf.{lawful_leaf}
 use Rattle.al_grammar.proofs.Pair.{lawful_pair}
@@ -9,7 +9,7 @@ use Rattle.al_grammar.proofs.Choices.{lawful_mapped, lawful_optional}
 use Rattle.al_grammar.proofs.Rows.{lawful_next, lawful_listed, many_on, many_off, many_stop}
 use Rattle.al_phrases.specs.declared.lexeme.Lexeme.{Lexeme}
 use Rattle.al_phrases.specs.Kinds.{names, comma, name as name_kind}
-use Rattle.al_phrases.specs.Words.{kind_of, one_of, word, ◌▸◌, ◌◂◌, is_there, given, name_shape, name, comma_shape, comma_list, name_list, next_name, names_from}
+use Rattle.al_phrases.specs.Words.{kind_of, one_of, word, ◌▸◌, ◌◂◌, is_there, given, name_shape, name, comma_list, name_list, next_name, names_from}
 
 abbrev pub token : ℕ → Lexeme
 token k = record { kind = k; called = false; place = 0; text = []; number = pos 1 }

@@ -1,7 +1,7 @@
 -- The grammar of expressions (4.2 and 4.1.6), over tokens. `depth` is how many levels may still be opened: by a parenthesis,
 -- a NOT or a sign.
-use Rattle.std.specs.Prelude.{ℕ, zero, suc, ℤ, Bool, true, false, ◌==◌, if◌then◌else◌, List, [], ◌∷◌, ◌++◌, Option, Some, None}
-use Rattle.al_grammar.specs.Rules.{Shape, Rule, leaf, leaf_shape, pair, both, optional, many, mapped, or, either, widen, at_most_once}
+use Rattle.std.specs.Prelude.{ℕ, zero, suc, Bool, true, false, ◌==◌, if◌then◌else◌, List, [], ◌∷◌, ◌++◌, Option, Some, None}
+use Rattle.al_grammar.specs.Rules.{Shape, Rule, leaf, leaf_shape, pair, both, optional, many, or, widen, at_most_once}
 use Rattle.al_values.specs.declared.kinds.Kind.{Kind}
 use Rattle.al_values.specs.declared.scalar.Value.TheVariants as values
 use Rattle.al_expr.specs.declared.tree.Operator.{Operator}

@@ -1,6 +1,6 @@
 -- Operators in a row, grouped from the left. A row that stands in parentheses at the front of a row of its kind is one row
 -- with it, since parentheses don't count.
-use Rattle.std.specs.Prelude.{ℕ, Bool, true, false, ◌==◌, if◌then◌else◌, List, [], ◌∷◌, ◌++◌}
+use Rattle.std.specs.Prelude.{ℕ, Bool, ◌==◌, if◌then◌else◌, List, [], ◌∷◌, ◌++◌}
 use Rattle.al_values.specs.declared.kinds.Kind.{Kind}
 use Rattle.al_expr.specs.declared.tree.Operator.{Operator}
 use Rattle.al_expr.specs.declared.tree.Operator.TheVariants as operators

@@ -7,99 +7,103 @@ use al_values::{Cant, Kind, ListOf, NoMemory, Txt};
 use std::alloc::Global;
 use std::test::Fail;
 
-// Tokens of these kinds with these texts and numbers, each at its number in the list.
-fn tokens(alloc: Global, rows: &[(u8, &str, i64)]) -> Result<LexemeList, NoMemory> {
+fn token(alloc: Global, kind: u8, text: &str, number: i64) -> Result<Lexeme, NoMemory> {
+    Ok(Lexeme {
+        kind,
+        called: false,
+        place: 0,
+        text: Txt::new(alloc, text)?,
+        number,
+    })
+}
+
+fn list_of(alloc: Global, kinds: &[u8], number: i64) -> Result<LexemeList, NoMemory> {
     let mut list = ListOf::new(alloc);
-    let mut place = 0;
-    for (kind, text, number) in rows {
-        list.push(Lexeme {
-            kind: *kind,
-            called: false,
-            place,
-            text: Txt::new(alloc, text)?,
-            number: *number,
-        })?;
-        place = place.wrapping_add(1);
+    for kind in kinds {
+        list.push(token(alloc, *kind, "", number)?)?;
     }
     Ok(list)
 }
 
-// A kind's name with how many tokens are left, or how many are left from the faulty one on.
-type Row<'a> = (&'a [(u8, &'a str, i64)], Result<(Kind, usize), usize>);
+// A kind's name with how many tokens are left; or how many are left from the faulty one on.
+fn kind_read(
+    alloc: Global,
+    kinds: &[u8],
+    number: i64,
+) -> Result<Result<(Kind, usize), usize>, NoMemory> {
+    let list = list_of(alloc, kinds, number)?;
+    match type_name(list.as_slice()) {
+        Ok((kind, rest)) => Ok(Ok((kind, rest.len()))),
+        Err(Cant::Why(left)) => Ok(Err(left)),
+        Err(Cant::NoMemory) => Err(NoMemory),
+    }
+}
 
 #[test]
-fn names_of_kinds(rt: HostRuntime) -> Result<(), Fail> {
-    let open = (LEFT_PAREN, "", 0);
-    let close = (RIGHT_PAREN, "", 0);
-    let varchar = (VARCHAR, "varchar", 0);
-    let rows: [Row; 11] = [
-        (&[(SMALLINT, "smallint", 0)], Ok((Kind::Smallint, 0))),
-        (&[(INT8, "int8", 0), close], Ok((Kind::Bigint, 1))),
-        (&[(BOOL, "bool", 0)], Ok((Kind::Boolean, 0))),
-        (&[(DATE, "date", 0)], Ok((Kind::Date, 0))),
-        (&[(INTEGER, "integer", 0)], Ok((Kind::Integer, 0))),
-        (&[varchar, (COMMA, "", 0)], Ok((Kind::Text, 1))),
-        (
-            &[varchar, open, (INTEGER_TOKEN, "", 5), close],
-            Ok((Kind::Varchar(5), 0)),
-        ),
-        (
-            &[
-                (CHARACTER, "character", 0),
-                (VARYING, "varying", 0),
-                open,
-                (INTEGER_TOKEN, "", 10_485_760),
-                close,
-            ],
-            Ok((Kind::Varchar(10_485_760), 0)),
-        ),
-        (&[varchar, open, (INTEGER_TOKEN, "", 0), close], Err(2)),
-        (
-            &[varchar, open, (INTEGER_TOKEN, "", 10_485_761), close],
-            Err(2),
-        ),
-        (&[(CHARACTER, "character", 0), (TEXT, "text", 0)], Err(1)),
+fn kinds_of_one_word(rt: HostRuntime) -> Result<(), Fail> {
+    let rows = [
+        (SMALLINT, Ok((Kind::Smallint, 0))),
+        (INT8, Ok((Kind::Bigint, 0))),
+        (BOOL, Ok((Kind::Boolean, 0))),
+        (DATE, Ok((Kind::Date, 0))),
+        (INTEGER, Ok((Kind::Integer, 0))),
+        (TEXT, Ok((Kind::Text, 0))),
+        (VARCHAR, Ok((Kind::Text, 0))),
+        (CHARACTER, Err(0)),
+        (NAME, Err(1)),
     ];
-    for (row, wanted) in rows {
-        let list = tokens(rt.alloc(), row)?;
-        let found = match type_name(list.as_slice()) {
-            Ok((kind, rest)) => Ok((kind, rest.len())),
-            Err(Cant::Why(left)) => Err(left),
-            Err(Cant::NoMemory) => return Err(NoMemory)?,
-        };
-        assert_eq!(rt; found, wanted);
+    for (kind, wanted) in rows {
+        let found = kind_read(rt.alloc(), &[kind], 0)?;
+        assert_eq!(rt; found, wanted, "{kind}");
     }
     Ok(())
 }
 
 #[test]
-fn lists_of_names(rt: HostRuntime) -> Result<(), Fail> {
-    let comma = (COMMA, ",", 0);
-    let list = tokens(
-        rt.alloc(),
-        &[
-            (NAME, "a", 0),
-            comma,
-            (VALUES, "values", 0),
-            comma,
-            (DATE, "date", 0),
-            (SELECT, "select", 0),
-        ],
-    )?;
-    match name_list(rt.alloc(), list.as_slice()) {
-        Ok((names, rest)) => {
-            assert_eq!(rt; names.len(), 3);
-            assert_eq!(rt; rest.len(), 1);
-            let second = names.get(1).map(|name| name.as_str() == "values");
-            assert_eq!(rt; second, Some(true));
-        }
-        Err(_) => assert!(rt; false, "no names"),
+fn kinds_with_a_length(rt: HostRuntime) -> Result<(), Fail> {
+    let rows = [
+        (1, Ok((Kind::Varchar(1), 1))),
+        (10_485_760, Ok((Kind::Varchar(10_485_760), 1))),
+        (0, Err(3)),
+        (10_485_761, Err(3)),
+    ];
+    for (number, wanted) in rows {
+        let short = [VARCHAR, LEFT_PAREN, INTEGER_TOKEN, RIGHT_PAREN, COMMA];
+        let found = kind_read(rt.alloc(), &short, number)?;
+        assert_eq!(rt; found, wanted, "{number}");
+        let long = [
+            CHARACTER,
+            VARYING,
+            LEFT_PAREN,
+            INTEGER_TOKEN,
+            RIGHT_PAREN,
+            COMMA,
+        ];
+        let found = kind_read(rt.alloc(), &long, number)?;
+        assert_eq!(rt; found, wanted, "{number}");
     }
-    let reserved = tokens(rt.alloc(), &[(NAME, "a", 0), comma, (SELECT, "select", 0)])?;
-    let left = match name_list(rt.alloc(), reserved.as_slice()) {
-        Err(Cant::Why(left)) => Some(left),
-        _ => None,
+    Ok(())
+}
+
+// How many names there are, whether the second has its text, and how many tokens are left.
+fn names_read(alloc: Global, list: &LexemeList) -> Result<(usize, bool, usize), Cant<usize>> {
+    let (names, rest) = name_list(alloc, list.as_slice())?;
+    let second = match names.get(1) {
+        None => false,
+        Some(name) => name.as_str() == "values",
     };
-    assert_eq!(rt; left, Some(1));
+    Ok((names.len(), second, rest.len()))
+}
+
+#[test]
+fn lists_of_names(rt: HostRuntime) -> Result<(), Fail> {
+    let mut list = list_of(rt.alloc(), &[NAME, COMMA], 0)?;
+    list.push(token(rt.alloc(), VALUES, "values", 0)?)?;
+    list.push(token(rt.alloc(), SELECT, "select", 0)?)?;
+    assert_eq!(rt; names_read(rt.alloc(), &list).ok(), Some((2, true, 1)));
+    let reserved = list_of(rt.alloc(), &[NAME, COMMA, SELECT], 0)?;
+    assert_eq!(rt; names_read(rt.alloc(), &reserved).err(), Some(Cant::Why(1)));
+    let one = list_of(rt.alloc(), &[DATE], 0)?;
+    assert_eq!(rt; names_read(rt.alloc(), &one).ok(), Some((1, false, 0)));
     Ok(())
 }
