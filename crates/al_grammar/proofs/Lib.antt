@@ -7,3 +7,7 @@ pub mod WholeTexts
 pub mod Skims
 pub mod Every
 pub mod More
+pub mod Rows
+pub mod Fronts
+pub mod Spans
+pub mod ManyBy

@@ -5,7 +5,7 @@ use Rattle.al_grammar.specs.Laws.{Took, Stuck, Lawful}
 use Rattle.al_grammar.specs.Whole.{StopsAt, whole_of}
 
 module _ (T A : Type 0) (s : Shape) (kind : T → ℕ) (p : Rule T s A) (pl : Lawful kind p) where
-  whole_reads : (text : List T) (v : A) → p.Is text v → p.reads text ≡ read v []
+  pub whole_reads : (text : List T) (v : A) → p.Is text v → p.reads text ≡ read v []
   whole_reads text v is = ap p.reads (sym (append-nil text)) ∙ pl.again text [] v is refl
 
   found_step : (ts : List T) (v : A) (step : Step T A) → p.reads ts ≡ step → whole_of step ≡ Ok v → p.Is ts v
@@ -41,7 +41,7 @@ module _ (T A : Type 0) (s : Shape) (kind : T → ℕ) (p : Rule T s A) (pl : La
     early = λ w e is. absurd cc;
   }
 
-  stops_stuck : (ts : List T) (n : ℕ) → p.reads ts ≡ fault n → Stuck p.Is p.reads ts n → StopsAt p.Is ts n
+  pub stops_stuck : (ts : List T) (n : ℕ) → p.reads ts ≡ fault n → Stuck p.Is p.reads ts n → StopsAt p.Is ts n
   stops_stuck ts n h stuck = record {
     before = stuck.used;
     from = stuck.rest;

@@ -1,5 +1,5 @@
 -- Kinds of tokens, as numbers, and lists of them.
-use Rattle.std.specs.Prelude.{ℕ, Bool, true, false, ◌||◌, ◌&&◌, not, ◌==◌, List, [], ◌∷◌}
+use Rattle.std.specs.Prelude.{ℕ, zero, suc, ◌+◌, Bool, true, false, ◌||◌, ◌&&◌, not, ◌==◌, List, [], ◌∷◌}
 
 -- a kind stands in a list
 abbrev pub among : ℕ → List ℕ → Bool
@@ -20,3 +20,8 @@ within (n ∷ ns) ms = among n ms && within ns ms
 abbrev pub starts : {T : Type 0} → (T → ℕ) → Bool → List ℕ → List T → Bool
 starts kind empty kinds [] = empty
 starts kind empty kinds (t ∷ ts) = among (kind t) kinds
+
+-- so many kinds in a row, from the least on
+abbrev pub span : ℕ → ℕ → List ℕ
+span low zero = []
+span low (suc count) = low ∷ span (low + 1) count

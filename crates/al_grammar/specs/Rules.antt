@@ -168,3 +168,17 @@ chain kind f p q = pair (folded f) p (many kind (pair (λ o x. (o, x)) q p))
 
 abbrev pub widen : {T A : Type 0} {s : Shape} → (w : Shape) → Rule T s A → Rule T w A
 widen w p = record { Is = p.Is; reads = p.reads }
+
+-- ---- a list: a rule, and any number of times a separator and the rule again
+
+abbrev pub next_shape : Shape → Shape → Shape
+next_shape c s = both c s
+
+abbrev pub next_item : {T A O : Type 0} {c s : Shape} → Rule T c O → Rule T s A → Rule T (next_shape c s) A
+next_item comma p = pair (λ o x. x) comma p
+
+abbrev pub list_shape : Shape → Shape → Shape
+list_shape c s = both s (at_most_once (next_shape c s))
+
+abbrev pub listed : {T A O : Type 0} {c s : Shape} → (T → ℕ) → Rule T c O → Rule T s A → Rule T (list_shape c s) (List A)
+listed kind comma p = pair (λ x xs. x ∷ xs) p (many kind (next_item comma p))

@@ -20,3 +20,10 @@ abbrev pub whole_of : {T A : Type 0} → Step T A → Result A ℕ
 whole_of (read v []) = Ok v
 whole_of (read v (t ∷ ts)) = Err (length (t ∷ ts))
 whole_of (fault n) = Err n
+
+-- A text of the grammar stands in front, and the token behind it, where there is one, goes on in none.
+pub record FrontIs {T A : Type 0} (Is : List T → A → Type 0) (ts : List T) (v : A) (rest : List T) : Type 0 where
+  pub used : List T
+  pub split : ts ≡ used ++ rest
+  pub is : Is used v
+  pub ends : (x : T) (others more : List T) (w : A) → rest ≡ x ∷ others → Is (used ++ x ∷ more) w → ⊥

@@ -1,3 +1,5 @@
 pub mod Runs
 pub mod Starts
 pub mod Unique
+pub mod Fronts
+mod Vectors

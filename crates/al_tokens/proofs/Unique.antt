@@ -17,7 +17,7 @@ use Rattle.al_tokens.specs.Bytes.{at, is_of, Run, First, Closed}
 use Rattle.al_tokens.specs.Begun.{begun, begun_at, long_sign, short_sign}
 use Rattle.al_tokens.specs.Signs.{width}
 use Rattle.al_tokens.proofs.Starts.{leads, token_begun, gap_begun, name_begun, text_begun}
-use Rattle.al_tokens.specs.Tokens.{IsGap, IsToken, IsPiece, Reads, here, gap, token, IsStuck, FaultAt, Spans, Unclosed, AreTokens, IfWhy}
+use Rattle.al_tokens.specs.Tokens.{IsGap, IsToken, IsPiece, Reads, here, gap, token, IsStray, IsStuck, FaultAt, Spans, Unclosed, AreTokens, IfWhy}
 use Rattle.al_tokens.proofs.Runs.{clash, one_run, one_first, one_end}
 
 -- what was read, and one piece more
@@ -48,7 +48,7 @@ no_gap_lead kinds.Word x e (inr a) = cc (e, a)
 no_gap_lead kind x e (inl a) = cc (e, a)
 no_gap_lead kind x e (inr a) = cc (e, a)
 
-gap_leads : (text : List ℕ) (i m : ℕ) → IsGap text i m → (begun_at text i ≡ begins.Blank) ⊎ (begun_at text i ≡ begins.Comment)
+pub gap_leads : (text : List ℕ) (i m : ℕ) → IsGap text i m → (begun_at text i ≡ begins.Blank) ⊎ (begun_at text i ≡ begins.Comment)
 gap_leads text i m a = elim (gap_begun text i m a) [ inl x ↦ inl x.0 | inr x ↦ inr x.0 ]
 
 pub gap_or_token : (text : List ℕ) (i m n : ℕ) (kind : TokenKind) → IsGap text i m → IsToken kind text i n → ⊥
@@ -105,7 +105,7 @@ dead_end text = record {
 pub dead_stuck : (text : List ℕ) (i n : ℕ) → IsStuck text i n → Dead text i
 dead_stuck text i n s = record { no_gap = s.no_gap; no_token = s.no_token }
 
-dead_here : (text : List ℕ) (i m : ℕ) → i ≡ m → Dead text m → Dead text i
+pub dead_here : (text : List ℕ) (i m : ℕ) → i ≡ m → Dead text m → Dead text i
 dead_here text i m e d = rw e d
 
 -- Readings up to places where nothing begins are one.
@@ -129,7 +129,7 @@ gap_rises : (text : List ℕ) (i next : ℕ) → IsGap text i next → i ≤ nex
 gap_rises text i next (inl a) = omega (arith, a.1)
 gap_rises text i next (inr a) = a.2.rises
 
-rise : (text : List ℕ) (end i : ℕ) (ts : List Token) (from : ℕ) → end ≡ length text → from ≤ i → Reads text end i ts → Spans text from ts
+pub rise : (text : List ℕ) (end i : ℕ) (ts : List Token) (from : ℕ) → end ≤ length text → from ≤ i → Reads text end i ts → Spans text from ts
 rise text end _ _ from all le (here i e) = omega arith
 rise text end _ _ from all le (gap i next ts h r) = rise text end next ts from all (omega (arith, gap_rises text i next h)) r
 rise text end _ _ from all le (token kind i next ts h lt r) = (le, lt, h, rise text end next ts next all (omega arith) r)
@@ -163,7 +163,7 @@ only_there text (Err (cants.Why lex)) found fault n is = ap (λ (x : ℕ). Err (
 only_there text (Err cants.NoMemory) found fault n is = tt
 
 pub spans_rise : (text : List ℕ) (r : Result (List Token) (Cant Lex)) → IfOk r (λ ts. AreTokens text ts) → IfOk r (λ ts. Spans text 0 ts)
-spans_rise text (Ok us) found = rise text (length text) 0 us 0 refl (omega arith) found
+spans_rise text (Ok us) found = rise text (length text) 0 us 0 (omega arith) (omega arith) found
 spans_rise text (Err e) found = tt
 
 -- ---- what the loop does with a piece
@@ -181,18 +181,18 @@ read_gap text m n ts (Some kind) none piece r = absurd (none kind refl)
 
 -- ---- where nothing is begun, an empty name, and what is unclosed
 
-pub stuck_there : (text : List ℕ) (i : ℕ) → i < length text → begun_at text i ≡ begins.Nothing → IsStuck text i i
-stuck_there text i lt e = record {
+pub stray_there : (text : List ℕ) (i : ℕ) → i < length text → begun_at text i ≡ begins.Nothing → IsStray text i
+stray_there text i lt e = record {
   within = lt;
   no_gap = λ m a. no_gap_at text i m e a;
   no_token = λ kind m a. no_token_at text i m kind e a;
-  place = inr (λ u. elim u [ inl a ↦ cc (e, name_begun text i a.0) | inr a ↦ cc (e, text_begun text i a.0) ], refl);
+  closed = λ u. elim u [ inl a ↦ cc (e, name_begun text i a.0) | inr a ↦ cc (e, text_begun text i a.0) ];
 }
 
-no_gap_quoted : (text : List ℕ) (i end : ℕ) → begun_at text i ≡ begins.QuotedName → IsGap text i end → ⊥
+pub no_gap_quoted : (text : List ℕ) (i end : ℕ) → begun_at text i ≡ begins.QuotedName → IsGap text i end → ⊥
 no_gap_quoted text i end e a = elim (gap_leads text i end a) [ inl y ↦ cc (e, y) | inr y ↦ cc (e, y) ]
 
-only_name : (text : List ℕ) (i m : ℕ) (kind : TokenKind) → begun_at text i ≡ begins.QuotedName → IsToken kind text i m → Closed 34 text m (i + 1) × (m ≡ i + 2 → ⊥)
+pub only_name : (text : List ℕ) (i m : ℕ) (kind : TokenKind) → begun_at text i ≡ begins.QuotedName → IsToken kind text i m → Closed 34 text m (i + 1) × (m ≡ i + 2 → ⊥)
 only_name text i m kinds.QuotedName e a = (a.1, a.2)
 only_name text i m kind e a = absurd (cc (e, token_begun text i m kind a))
 
@@ -200,12 +200,12 @@ not_unclosed : (text : List ℕ) (i end : ℕ) → begun_at text i ≡ begins.Qu
 not_unclosed text i end e shut (inl a) = a.1 end shut
 not_unclosed text i end e shut (inr a) = cc (e, text_begun text i a.0)
 
-pub empty_name : (text : List ℕ) (i end : ℕ) → i < length text → at text i ≡ 34 → Closed 34 text end (i + 1) → end ≡ i + 2 → IsStuck text i i
+pub empty_name : (text : List ℕ) (i end : ℕ) → i < length text → at text i ≡ 34 → Closed 34 text end (i + 1) → end ≡ i + 2 → IsStray text i
 empty_name text i end lt q shut empty =
     let e = name_begun text i q in
     record {
       within = lt;
       no_gap = λ m a. no_gap_quoted text i m e a;
       no_token = λ kind m a. let n = only_name text i m kind e a in n.1 (one_end 34 text m end (i + 1) n.0 shut ∙ empty);
-      place = inr (not_unclosed text i end e shut, refl);
+      closed = not_unclosed text i end e shut;
     }

@@ -5,7 +5,13 @@ use Rattle.al_values.specs.declared.cant.Cant.TheVariants as cants
 use Rattle.al_tokens.specs.declared.kinds.TokenKind.{TokenKind}
 use Rattle.al_tokens.specs.declared.kinds.TokenKind.TheVariants as kinds
 use Rattle.al_tokens.specs.declared.kinds.Token.{Token}
+use Rattle.al_tokens.specs.declared.kinds.Ending.{Ending}
+use Rattle.al_tokens.specs.declared.kinds.Ending.TheVariants as endings
+use Rattle.al_tokens.specs.declared.kinds.Front.{Front}
+use Rattle.al_tokens.specs.declared.kinds.Lex.{Lex}
 use Rattle.al_tokens.specs.declared.bytes.Class.TheVariants as classes
+use Rattle.al_tokens.specs.declared.bytes.Stop.{Stop}
+use Rattle.al_tokens.specs.declared.bytes.Stop.TheVariants as stops
 use Rattle.al_tokens.specs.Bytes.{at, is_blank, begins_word, is_of, Run, First, Closed}
 use Rattle.al_tokens.specs.Signs.{width, Spells}
 use Rattle.std.specs.Char.{is_ascii_digit}
@@ -37,10 +43,12 @@ abbrev pub AreTokens : List ℕ → List Token → Type 0
 AreTokens text ts = Reads text (length text) 0 ts
 
 -- A quote stands at a place, and nothing closes it.
+abbrev pub IsOpen : ℕ → List ℕ → ℕ → Type 0
+IsOpen quote text i = (at text i ≡ quote) × ((end : ℕ) → Closed quote text end (i + 1) → ⊥)
+
+-- double quotes, or single ones
 abbrev pub Unclosed : List ℕ → ℕ → Type 0
-Unclosed text i =
-    ((at text i ≡ 34) × ((end : ℕ) → Closed 34 text end (i + 1) → ⊥))
-    ⊎ ((at text i ≡ 39) × ((end : ℕ) → Closed 39 text end (i + 1) → ⊥))
+Unclosed text i = IsOpen 34 text i ⊎ IsOpen 39 text i
 
 -- Within the text neither a gap nor a token begins at a place. The fault is told there, but at the text's end where a
 -- quote is unclosed.
@@ -57,6 +65,26 @@ pub record FaultAt (text : List ℕ) (fault : ℕ) : Type 0 where
   pub reads : Reads text upto 0 tokens
   pub stuck : IsStuck text upto fault
 
+-- Within the text neither a gap nor a token begins at a place, and no quote is open there.
+pub record IsStray (text : List ℕ) (i : ℕ) : Type 0 where
+  pub within : i < length text
+  pub no_gap : (end : ℕ) → IsGap text i end → ⊥
+  pub no_token : (kind : TokenKind) (end : ℕ) → IsToken kind text i end → ⊥
+  pub closed : Unclosed text i → ⊥
+
+-- what ends the tokens that stand up to a place, told with that place
+abbrev pub Ends : Ending → List ℕ → ℕ → Type 0
+Ends endings.Whole text i = i ≡ length text
+Ends (endings.Stray place) text i = (place ≡ i) × IsStray text i
+Ends (endings.OpenName place) text i = (place ≡ i) × IsOpen 34 text i
+Ends (endings.OpenText place) text i = (place ≡ i) × IsOpen 39 text i
+
+-- The tokens of a text up to the first place where none begins, and what stands there.
+pub record IsFront (text : List ℕ) (front : Front) : Type 0 where
+  pub upto : ℕ
+  pub reads : Reads text upto 0 front.tokens
+  pub ends : Ends front.ending text upto
+
 -- Spans rise from a place, none is empty, all lie within the text, and in each span stands its token.
 abbrev pub Spans : List ℕ → ℕ → List Token → Type 0
 Spans text from [] = from ≤ length text
@@ -72,3 +100,25 @@ abbrev pub IfWhy : {T E : Type 0} → Result T (Cant E) → (E → Type 0) → T
 IfWhy (Ok value) says = Unit {0}
 IfWhy (Err (cants.Why cause)) says = says cause
 IfWhy (Err cants.NoMemory) says = Unit {0}
+
+-- why no gap and no token is read at a place
+abbrev pub Stops : Stop → List ℕ → ℕ → Type 0
+Stops stops.Stray text i = IsStray text i
+Stops stops.OpenName text i = IsOpen 34 text i
+Stops stops.OpenText text i = IsOpen 39 text i
+
+-- the same, told with the place
+abbrev pub ending_of : Stop → ℕ → Ending
+ending_of stops.Stray place = endings.Stray place
+ending_of stops.OpenName place = endings.OpenName place
+ending_of stops.OpenText place = endings.OpenText place
+
+abbrev pub whole_by : Ending → List Token → ℕ → Result (List Token) (Cant Lex)
+whole_by endings.Whole tokens end = Ok tokens
+whole_by (endings.Stray place) tokens end = Err (cants.Why (record { at = place }))
+whole_by (endings.OpenName place) tokens end = Err (cants.Why (record { at = end }))
+whole_by (endings.OpenText place) tokens end = Err (cants.Why (record { at = end }))
+
+-- the tokens of a whole text, or the place of the fault: the text's length where a quote is open
+abbrev pub whole_of : Front → ℕ → Result (List Token) (Cant Lex)
+whole_of front end = whole_by front.ending front.tokens end

@@ -38,6 +38,17 @@ pub enum Begins {
     Nothing,
 }
 
+/// Why no gap and no token is read at a place.
+#[derive(Clone, Copy, Debug, Drop)]
+pub enum Stop {
+    /// The byte begins none.
+    Stray,
+    /// Double quotes are open there.
+    OpenName,
+    /// Single quotes are open there.
+    OpenText,
+}
+
 pub fn at(text: &[u8], place: usize) -> u8
     ensures { result ≡ at text.now place }
 {

@@ -78,3 +78,34 @@ pub struct Lex {
     /// The place of the first byte that begins no token; the text's length where a quote is unclosed.
     pub at: u32,
 }
+
+/// What ends the tokens of a text.
+#[derive(Clone, Copy, Debug, PartialEq, Eq, Drop)]
+pub enum Ending {
+    /// The text's end.
+    Whole,
+    /// A byte that begins no token.
+    Stray {
+        /// The byte's place.
+        at: u32,
+    },
+    /// A name in double quotes that nothing closes.
+    OpenName {
+        /// The place of its first quote.
+        at: u32,
+    },
+    /// A text in single quotes that nothing closes.
+    OpenText {
+        /// The place of its first quote.
+        at: u32,
+    },
+}
+
+/// The tokens in front of the first place where none begins, and what stands there.
+#[derive(Debug, Drop)]
+pub struct Front {
+    /// The tokens, in the order of their places.
+    pub tokens: TokenList,
+    /// What ends them.
+    pub ending: Ending,
+}

@@ -7,5 +7,5 @@ mod read;
 #[cfg(test)]
 mod tests;
 
-pub use kinds::{Lex, Sign, Token, TokenKind, TokenList};
-pub use read::tokens;
+pub use kinds::{Ending, Front, Lex, Sign, Token, TokenKind, TokenList};
+pub use read::{front_tokens, tokens};

@@ -3,12 +3,13 @@ ghost use Rattle.al_values.specs.Gives.{GivesUnlessNoMemory};
 ghost use Rattle.al_values.specs.declared.cant.Cant.TheVariants as cants;
 ghost use Rattle.std.specs.Char.{is_ascii_digit};
 ghost use Rattle.al_tokens.specs.Bytes.{at};
-ghost use Rattle.al_tokens.specs.Tokens.{IsGap, IsToken, IsPiece, IfWhy, AreTokens, IsStuck, FaultAt, Spans};
+ghost use Rattle.al_tokens.specs.Tokens.{IsGap, IsToken, IsPiece, IfWhy, AreTokens, FaultAt, IsFront, Spans, Stops, ending_of, whole_of};
+ghost use Rattle.al_tokens.specs.declared.kinds.Front.{Front};
 ghost use Rattle.al_tokens.specs.declared.kinds.TokenKind.TheVariants as kinds;
 
-use crate::bytes::{Begins, Class, at, begun, closed, is_of, run_end, seek, width};
-use crate::{Lex, Token, TokenKind, TokenList};
-use al_values::{Cant, ListOf, Txt};
+use crate::bytes::{Begins, Class, Stop, at, begun, closed, is_of, run_end, seek, width};
+use crate::{Ending, Front, Lex, Token, TokenKind, TokenList};
+use al_values::{Cant, ListOf, NoMemory, Txt};
 use std::alloc::Global;
 
 // An integer or an odd number, with its end.
@@ -26,45 +27,45 @@ fn number(text: &[u8], place: usize) -> (TokenKind, usize)
     (TokenKind::OddNumber, run_end(Class::Number, text, digits))
 }
 
-// A quoted name's end, or the place of its fault.
-fn quoted_name(text: &[u8], place: usize) -> Result<usize, usize>
+// A quoted name's end, or why there is none.
+fn quoted_name(text: &[u8], place: usize) -> Result<usize, Stop>
     requires inside { place < length text.now }
     requires quote { at text.now place ≡ 34 }
     ensures found { IfOk result (λ end. IsToken kinds.QuotedName text.now place end) }
     ensures rises { IfOk result (λ end. (place < end) × (end ≤ length text.now)) }
-    ensures stuck { IfErr result (λ fault. IsStuck text.now place fault) }
+    ensures stops { IfErr result (λ stop. Stops stop text.now place) }
 {
     match closed(b'"', text, place + 1) {
-        None => Err(text.len()),
+        None => Err(Stop::OpenName),
         Some(end) => {
             if end == place + 2 {
-                return Err(place);
+                return Err(Stop::Stray);
             }
             Ok(end)
         }
     }
 }
 
-// A text's end, or the place of its fault.
-fn quoted_text(text: &[u8], place: usize) -> Result<usize, usize>
+// A text's end, or why there is none.
+fn quoted_text(text: &[u8], place: usize) -> Result<usize, Stop>
     requires inside { place < length text.now }
     requires quote { at text.now place ≡ 39 }
     ensures found { IfOk result (λ end. IsToken kinds.Text text.now place end) }
     ensures rises { IfOk result (λ end. (place < end) × (end ≤ length text.now)) }
-    ensures stuck { IfErr result (λ fault. IsStuck text.now place fault) }
+    ensures stops { IfErr result (λ stop. Stops stop text.now place) }
 {
     match closed(b'\'', text, place + 1) {
-        None => Err(text.len()),
+        None => Err(Stop::OpenText),
         Some(end) => Ok(end),
     }
 }
 
-// The gap or the token that begins at a place, with its end; or the place of the fault.
-fn piece(text: &[u8], place: usize) -> Result<(Option<TokenKind>, usize), usize>
+// The gap or the token that begins at a place, with its end; or why there is none.
+fn piece(text: &[u8], place: usize) -> Result<(Option<TokenKind>, usize), Stop>
     requires inside { place < length text.now }
     ensures found { IfOk result (λ piece. IsPiece piece.0 text.now place piece.1) }
     ensures rises { IfOk result (λ piece. (place < piece.1) × (piece.1 ≤ length text.now)) }
-    ensures stuck { IfErr result (λ fault. IsStuck text.now place fault) }
+    ensures stops { IfErr result (λ stop. Stops stop text.now place) }
 {
     match begun(at(text, place), at(text, place + 1)) {
         Begins::Blank => Ok((None, place + 1)),
@@ -83,20 +84,35 @@ fn piece(text: &[u8], place: usize) -> Result<(Option<TokenKind>, usize), usize>
             Ok((Some(TokenKind::Text), end))
         }
         Begins::Sign(sign) => Ok((Some(TokenKind::Sign(sign)), place + width(sign))),
-        Begins::Nothing => Err(place),
+        Begins::Nothing => Err(Stop::Stray),
     }
 }
 
-fn read(alloc: Global, text: &[u8]) -> Result<TokenList, Cant<Lex>>
+// What ends the tokens at a place.
+fn ending(stop: Stop, at: u32) -> Ending
+    ensures { result ≡ ending_of stop at }
+{
+    match stop {
+        Stop::Stray => Ending::Stray { at },
+        Stop::OpenName => Ending::OpenName { at },
+        Stop::OpenText => Ending::OpenText { at },
+    }
+}
+
+fn read(alloc: Global, text: &[u8]) -> Result<Front, NoMemory>
     requires { length text.now < 2 ^ 32 }
-    ensures found { IfOk result (λ ts. AreTokens text.now ts) }
-    ensures fault { IfWhy result (λ lex. FaultAt text.now lex.at) }
+    ensures { IfOk result (λ front. IsFront text.now front) }
 {
     let mut tokens = ListOf::new(alloc);
     let mut place = 0;
     while place < text.len() {
         match piece(text, place) {
-            Err(fault) => return Err(Cant::Why(Lex { at: fault as u32 })),
+            Err(stop) => {
+                return Ok(Front {
+                    tokens,
+                    ending: ending(stop, place as u32),
+                });
+            }
             Ok((kind, end)) => {
                 if let Some(kind) = kind {
                     tokens.push(Token {
@@ -109,7 +125,40 @@ fn read(alloc: Global, text: &[u8]) -> Result<TokenList, Cant<Lex>>
             }
         }
     }
-    Ok(tokens)
+    Ok(Front {
+        tokens,
+        ending: Ending::Whole,
+    })
+}
+
+/// The tokens in front of the first place where none begins, with what stands there: the text's end, a byte that begins
+/// none, or a quote that nothing closes. A text of more than 2^32 - 1 bytes finds no memory.
+#[tactic(auto, using(crate::proofs::Fronts::only_front, crate::proofs::Fronts::front_spans))]
+pub fn front_tokens(alloc: Global, text: &Txt) -> Result<Front, NoMemory>
+    ensures found { IfOk result (λ front. IsFront text.now front) }
+    ensures only { (front : Front) → IsFront text.now front → IfOk result (λ it. it ≡ front) }
+    ensures spans { IfOk result (λ front. Spans text.now 0 front.tokens) }
+    ensures short { IfOk result (λ front. length text.now < 2 ^ 32) }
+{
+    let bytes = text.as_bytes();
+    if bytes.len() > u32::MAX as usize {
+        return Err(NoMemory);
+    }
+    read(alloc, bytes)
+}
+
+// The tokens, where nothing but the text's end ends them.
+fn whole(front: Front, length: u32) -> Result<TokenList, Cant<Lex>>
+    ensures { result ≡ whole_of front length }
+{
+    let Front { tokens, ending } = front;
+    match ending {
+        Ending::Whole => Ok(tokens),
+        Ending::Stray { at } => Err(Cant::Why(Lex { at })),
+        Ending::OpenName { at: _ } | Ending::OpenText { at: _ } => {
+            Err(Cant::Why(Lex { at: length }))
+        }
+    }
 }
 
 /// The tokens of a text, with their places in it; or the first place where it has none. A text of more than 2^32 - 1
@@ -126,5 +175,5 @@ pub fn tokens(alloc: Global, text: &Txt) -> Result<TokenList, Cant<Lex>>
     if bytes.len() > u32::MAX as usize {
         return Err(Cant::NoMemory);
     }
-    read(alloc, bytes)
+    whole(read(alloc, bytes)?, bytes.len() as u32)
 }

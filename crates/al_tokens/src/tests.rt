@@ -1,4 +1,4 @@
-use crate::{Lex, Sign, Token, TokenKind, tokens};
+use crate::{Ending, Lex, Sign, Token, TokenKind, front_tokens, tokens};
 use al_values::{Cant, Txt};
 use std::test::Fail;
 
@@ -115,5 +115,39 @@ fn faults(rt: HostRuntime) -> Result<(), Fail> {
         let found = tokens(rt.alloc(), &Txt::new(rt.alloc(), text)?);
         assert_eq!(rt; found.err(), Some(Cant::Why(Lex { at })), "{text:?}");
     }
+    Ok(())
+}
+
+#[test]
+fn tokens_in_front(rt: HostRuntime) -> Result<(), Fail> {
+    let rows = [
+        ("SELECT a --", 2, Ending::Whole),
+        ("SELECT 1 @ 2", 2, Ending::Stray { at: 9 }),
+        ("a \"\" b", 1, Ending::Stray { at: 2 }),
+        ("SELECT 1 FROM 'abc", 3, Ending::OpenText { at: 14 }),
+        ("b, \"ab\"\"", 2, Ending::OpenName { at: 3 }),
+        ("'", 0, Ending::OpenText { at: 0 }),
+    ];
+    for (text, count, ending) in rows {
+        let found = front_tokens(rt.alloc(), &Txt::new(rt.alloc(), text)?)?;
+        assert_eq!(rt; found.tokens.len(), count, "{text:?}");
+        assert_eq!(rt; found.ending, ending, "{text:?}");
+    }
+    Ok(())
+}
+
+// More bytes than 16 bits count.
+#[test]
+fn long_text(rt: HostRuntime) -> Result<(), Fail> {
+    let mut text = String::new(rt.alloc());
+    for _ in 0..40_000 {
+        text.push_str("a,")?;
+    }
+    text.push_str("é")?;
+    let found = front_tokens(rt.alloc(), &Txt::from_string(text))?;
+    assert_eq!(rt; found.tokens.len(), 80_000);
+    assert_eq!(rt; found.ending, Ending::Stray { at: 80_000 });
+    let last = found.tokens.get(79_999).map(|token| token.start);
+    assert_eq!(rt; last, Some(79_999));
     Ok(())
 }

@@ -2,7 +2,7 @@ use Rattle.std.proofs.Common.{◌≡◌, inl, inr, refl}
 use Rattle.al_tokens.specs.declared.bytes.Begins.TheVariants as begins
 use Rattle.al_tokens.specs.Begun.{begun_at}
 use Rattle.al_tokens.proofs.Starts.{word_rises, comment_rises, sign_within, from_blank, from_comment, from_word, from_digit, from_name, from_text, from_sign}
-use Rattle.al_tokens.proofs.Unique.{stuck_there}
+use Rattle.al_tokens.proofs.Unique.{stray_there}
 use Rattle.al_tokens.proofs.read.piece.Goals as goal
 
 pub number-kind-requires-clause-digit : goal.number-kind-requires-clause-digit
@@ -56,7 +56,7 @@ returns-in-Sign-clause-rises c =
     let e : begun_at c.args.text.now c.args.place ≡ begins.Sign c.in-Sign.sign = cc in
     rw c.width.ensures (sign_within _ _ _ c.requires.inside e)
 
-pub returns-in-Nothing-clause-stuck : goal.returns-in-Nothing-clause-stuck
-returns-in-Nothing-clause-stuck c =
+pub returns-in-Nothing-clause-stops : goal.returns-in-Nothing-clause-stops
+returns-in-Nothing-clause-stops c =
     let e : begun_at c.args.text.now c.args.place ≡ begins.Nothing = cc in
-    stuck_there _ _ c.requires.inside e
+    stray_there _ _ c.requires.inside e

@@ -1,16 +1,18 @@
-use Rattle.std.proofs.Common.{ℕ, List, Ok, Err, subst}
-use Rattle.std.specs.Prelude.{IfOk}
-use Rattle.al_values.specs.Gives.{GivesUnlessNoMemory}
-use Rattle.al_tokens.specs.declared.kinds.Token.{Token}
-use Rattle.al_tokens.specs.Tokens.{AreTokens, FaultAt, Spans}
-use Rattle.al_tokens.proofs.Unique.{only_these, only_there, spans_rise}
+use Rattle.std.proofs.Common.{List, ℕ, subst}
+use Rattle.al_tokens.proofs.Fronts.{Answered, answered}
 use Rattle.al_tokens.proofs.read.tokens.Goals as goal
 
+all : (c : goal.After-whole) → Answered c.args.text.now c.whole.result
+all c = subst (λ (t : List ℕ). Answered t c.whole.result) c.as_bytes-bytes.ensures (answered _ c.in_ok-read.field-0 c.whole.result (c.in_ok-read.ensures {u = tt}) c.whole.ensures)
+
 pub returns-clause-only : goal.returns-clause-only
-returns-clause-only c = subst (λ (t : List ℕ). (ts : List Token) → AreTokens t ts → GivesUnlessNoMemory c.read.result (Ok ts)) c.as_bytes-bytes.ensures (only_these _ c.read.result c.read.ensures.found c.read.ensures.fault)
+returns-clause-only c = (all c).only
+
+pub returns-clause-fault : goal.returns-clause-fault
+returns-clause-fault c = (all c).fault
 
 pub returns-clause-only_fault : goal.returns-clause-only_fault
-returns-clause-only_fault c = subst (λ (t : List ℕ). (n : ℕ) → FaultAt t n → GivesUnlessNoMemory c.read.result (Err (record { at = n }))) c.as_bytes-bytes.ensures (only_there _ c.read.result c.read.ensures.found c.read.ensures.fault)
+returns-clause-only_fault c = (all c).only_fault
 
 pub returns-clause-spans : goal.returns-clause-spans
-returns-clause-spans c = subst (λ (t : List ℕ). IfOk c.read.result (λ ts. Spans t 0 ts)) c.as_bytes-bytes.ensures (spans_rise _ c.read.result c.read.ensures.found)
+returns-clause-spans c = (all c).spans

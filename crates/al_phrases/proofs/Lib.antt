@@ -1,0 +1,5 @@
+pub mod WordLaws
+pub mod TypeLaws
+pub mod ExpressionLaws
+pub mod NameKinds
+mod Vectors

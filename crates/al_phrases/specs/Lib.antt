@@ -1,0 +1,5 @@
+pub mod Kinds
+pub mod Words
+pub mod Types
+pub mod Rows
+pub mod Expressions

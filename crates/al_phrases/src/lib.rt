@@ -1,0 +1,17 @@
+//! The phrases that the statements of SQL share: names, kinds and expressions.
+#![tactic(auto)]
+
+pub mod kinds;
+mod lexeme;
+mod names;
+mod tail;
+#[cfg(test)]
+mod tests;
+mod tokens;
+mod types;
+
+pub use lexeme::{Lexeme, LexemeList};
+pub use names::name_list;
+pub use tail::Tail;
+pub use tokens::{name, starts, word};
+pub use types::type_name;

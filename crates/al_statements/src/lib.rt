@@ -1,0 +1,30 @@
+//! The statements of SQL as trees: what a script says, with the lock mode and the pass of each subcommand of ALTER TABLE.
+#![tactic(auto)]
+
+mod alter;
+mod column;
+mod fault;
+mod levels;
+mod optional;
+mod query;
+mod rows;
+mod script;
+mod subcommands;
+mod tables;
+#[cfg(test)]
+mod tests;
+
+pub use alter::{Alter, Change, Rename, Sub};
+pub use column::{ColumnDefinition, Constraint, ConstraintList, Rule};
+pub use fault::SqlFault;
+pub use levels::{level, level_of, pass_of};
+pub use query::{
+    Aggregate, AggregateList, Function, Output, OutputList, Query, SelectList, SortKey,
+    SortKeyList, TableQuery,
+};
+pub use rows::{
+    Assignment, AssignmentList, Delete, Insert, InsertRows, Series, Slot, Tuple, TupleList, Update,
+};
+pub use script::{Script, Setting, Statement};
+pub use subcommands::SubList;
+pub use tables::{CreateTable, DropTable, Element, ElementList, LockTable, Target, TargetList};
