@@ -39,6 +39,7 @@ ways links after child parent a more t (Descends.child_below _ m d h) = on (ways
   down : (m : ℕ) → has_link links t m ≡ true → ((m ≡ child) ⊎ Descends links child m) → (t ≡ child) ⊎ Descends links child t
   down m o (inl e) = inr (Descends.child_of t (subst (λ (n : ℕ). has_link links t n ≡ true) e o))
   down m o (inr e) = inr (Descends.child_below t m e o)
+
   on : (Descends links a m ⊎ Takes links child parent a m) → ((has_link links t m ≡ true) ⊎ ((t ≡ child) × (m ≡ parent))) → Descends links a t ⊎ Takes links child parent a t
   on (inl e) (inl o) = inl (Descends.child_below t m e o)
   on (inl e) (inr n) = inr (record { to_parent = inr (subst (Descends links a) n.1 e); from_child = inl n.0 })
@@ -61,10 +62,11 @@ there-already links child parent h c p = by (child == c) refl (parent == p) refl
   or-false : (b : Bool) → b ≡ (b || false)
   or-false true = refl
   or-false false = refl
+
   by : (a : Bool) → (child == c) ≡ a → (b : Bool) → (parent == p) ≡ b → has_link links c p ≡ (has_link links c p || (a && b))
   by true e true f =
-    let here : has_link links c p ≡ true = subst (λ (n : ℕ). has_link links n p ≡ true) (eqb-true child c e) (subst (λ (n : ℕ). has_link links child n ≡ true) (eqb-true parent p f) h) in
-    here ∙ sym (or_left _ _ here)
+      let here : has_link links c p ≡ true = subst (λ (n : ℕ). has_link links n p ≡ true) (eqb-true child c e) (subst (λ (n : ℕ). has_link links child n ≡ true) (eqb-true parent p f) h) in
+      here ∙ sym (or_left _ _ here)
   by true e false f = or-false _
   by false e b f = or-false _
 
@@ -90,14 +92,16 @@ children-more lines child parent c p there = ap (is_among c) (children-with pare
   and-true : (b : Bool) → b ≡ (b && true)
   and-true true = refl
   and-true false = refl
+
   or-none : (a b : Bool) → a ≡ (a || (b && false))
   or-none true b = refl
   or-none false true = refl
   or-none false false = refl
+
   by : (b : Bool) → (parent == p) ≡ b → is_among c (cond b (put child (children_in lines parent)) (children_in lines p)) ≡ (is_among c (children_in lines p) || ((child == c) && b))
   by true e =
-    among-put c child (children_in lines parent)
-    ∙ ap (λ (n : ℕ). is_among c (children_in lines n) || (child == c)) (eqb-true parent p e) ∙ ap (λ b. is_among c (children_in lines p) || b) (and-true (child == c))
+      among-put c child (children_in lines parent)
+      ∙ ap (λ (n : ℕ). is_among c (children_in lines n) || (child == c)) (eqb-true parent p e) ∙ ap (λ b. is_among c (children_in lines p) || b) (and-true (child == c))
   by false e = or-none (is_among c (children_in lines p)) (child == c)
 
 pub more-are_lines : (lines : List Line) (child parent : ℕ) → has_line lines child ≡ true → has_line lines parent ≡ true → is_among child (children_in lines parent) ≡ false
@@ -106,9 +110,9 @@ more-are_lines lines child parent line there new are = record {
   tables = rw (tables-with parent (put child) lines) are.tables;
   children = all-with parent (put child) lines (λ k. put-ascends child _ new k) are.children;
   known = λ c p h.
-    ap (is_among c) (tables-with parent (put child) lines)
-    ∙ ⊎_elim (λ o. are.known c p o) (λ n. subst (λ (k : ℕ). has_line lines k ≡ true) (eqb-true child c (and_parts (child == c) _ n).0) line)
-    (or_cases (is_among c (children_in lines p)) ((child == c) && (parent == p)) (sym (children-more lines child parent c p there) ∙ h));
+      ap (is_among c) (tables-with parent (put child) lines)
+      ∙ ⊎_elim (λ o. are.known c p o) (λ n. subst (λ (k : ℕ). has_line lines k ≡ true) (eqb-true child c (and_parts (child == c) _ n).0) line)
+      (or_cases (is_among c (children_in lines p)) ((child == c) && (parent == p)) (sym (children-more lines child parent c p there) ∙ h));
 }
 
 pub more-links : (lines : List Line) (child parent : ℕ) → has_line lines child ≡ true → has_line lines parent ≡ true → is_among child (children_in lines parent) ≡ false → AreLines lines
@@ -126,20 +130,23 @@ children-less lines child parent c p true there = ap (is_among c) (children-with
   and-true : (b : Bool) → b ≡ (b && true)
   and-true true = refl
   and-true false = refl
+
   and-none : (a b : Bool) → a ≡ (a && not (b && false))
   and-none true true = refl
   and-none true false = refl
   and-none false b = refl
+
   by : (b : Bool) → (parent == p) ≡ b → is_among c (cond b (without child (children_in lines parent)) (children_in lines p)) ≡ (is_among c (children_in lines p) && not ((child == c) && b))
   by true e =
-    among-without c child (children_in lines parent)
-    ∙ ap (λ (n : ℕ). is_among c (children_in lines n) && not (child == c)) (eqb-true parent p e) ∙ ap (λ b. is_among c (children_in lines p) && not b) (and-true (child == c))
+      among-without c child (children_in lines parent)
+      ∙ ap (λ (n : ℕ). is_among c (children_in lines n) && not (child == c)) (eqb-true parent p e) ∙ ap (λ b. is_among c (children_in lines p) && not b) (and-true (child == c))
   by false e = and-none (is_among c (children_in lines p)) (child == c)
 children-less lines child parent c p false there = rw (with-none parent (without child) lines there) (by (parent == p) refl) where
   and-true : (a b : Bool) → a ≡ (a && not (b && false))
   and-true true true = refl
   and-true true false = refl
   and-true false b = refl
+
   by : (b : Bool) → (parent == p) ≡ b → is_among c (children_in lines p) ≡ (is_among c (children_in lines p) && not ((child == c) && b))
   by true e = let none : is_among c (children_in lines p) ≡ false = ap (is_among c) (no-line-no-children p lines (subst (λ (n : ℕ). has_line lines n ≡ false) (eqb-true parent p e) there)) in rw none refl
   by false e = and-true (is_among c (children_in lines p)) (child == c)

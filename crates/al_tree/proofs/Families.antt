@@ -34,18 +34,21 @@ among-chosen t table (line ∷ lines) (m ∷ marks) all = by (line.table == t) r
       → is_among t (cond b (line.table ∷ chosen table lines marks) (chosen table lines marks)) ≡ (marked lines marks t && not (t == table))
   other true e more = rw e more
   other false e more = more
+
   out : line.table ≡ t → is_among t (chosen table lines marks) ≡ false
   out e = above-out t (chosen table lines marks) (above-chosen t table lines marks (subst (λ (n : ℕ). AllAbove n (tables_of lines)) e all.0))
+
   same : (m b : Bool) → line.table ≡ t → (line.table == t) ≡ true → is_among t (chosen table lines marks) ≡ false
       → is_among t (cond (m && not b) (line.table ∷ chosen table lines marks) (chosen table lines marks)) ≡ (m && not b)
   same true true e f o = o
   same true false e f o = rw f refl
   same false b e f o = o
+
   by : (b : Bool) → (line.table == t) ≡ b → (m : Bool) → is_among t (chosen table lines marks) ≡ (marked lines marks t && not (t == table))
       → is_among t (cond (m && not (line.table == table)) (line.table ∷ chosen table lines marks) (chosen table lines marks)) ≡ (cond b m (marked lines marks t) && not (t == table))
   by true e m more =
-    let here = eqb-true line.table t e in
-    same m (line.table == table) here e (out here) ∙ ap (λ (n : ℕ). m && not (n == table)) here
+      let here = eqb-true line.table t e in
+      same m (line.table == table) here e (out here) ∙ ap (λ (n : ℕ). m && not (n == table)) here
   by false e m more = other _ e more
 
 pub family-is : (lines : List Line) (table : ℕ) (marks : List Bool) (family : List ℕ) → AreLines lines
@@ -56,9 +59,10 @@ family-is lines table marks family are found e = record {
   first = e;
   ascends = chosen-ascends table lines marks are.tables;
   members = λ t.
-    let same = among-chosen t table lines marks are.tables in
-    (λ h. let p = and_parts (marked lines marks t) (not (t == table)) (sym same ∙ h) in ((found t).0 p.0, eqb-false t table (not-true (t == table) p.1)),
-     λ d. same ∙ and_from _ _ ((found t).1 d.0) (not_from_false (t == table) (ne_eqb t table d.1)));
+      let same = among-chosen t table lines marks are.tables in (
+        λ h. let p = and_parts (marked lines marks t) (not (t == table)) (sym same ∙ h) in ((found t).0 p.0, eqb-false t table (not-true (t == table) p.1)),
+        λ d. same ∙ and_from _ _ ((found t).1 d.0) (not_from_false (t == table) (ne_eqb t table d.1)),
+      );
 }
 
 -- two families of a table are the same list
@@ -70,43 +74,46 @@ same-rest (x ∷ xs) [] a b e = absurd (both_ways (is_among x (x ∷ xs)) (e x) 
 same-rest (x ∷ xs) (y ∷ ys) a b e =
     let same : x ≡ y = least (x == y) refl in
     rw same (ap (λ zs. y ∷ zs) (same-rest xs ys a.1 b.1 (λ t. rest t (x == t) refl same))) where
-  below : (x y : ℕ) (xs ys : List ℕ) → AllAbove y ys → (x ≡ y → ⊥) → is_among x (y ∷ ys) ≡ true → y < x
-  below x y xs [] all apart h = absurd (apart (sym (by (y == x) refl h))) where
-    by : (b : Bool) → (y == x) ≡ b → (b || false) ≡ true → y ≡ x
-    by true e h = eqb-true y x e
-    by false e h = absurd (cc)
-  below x y xs (z ∷ zs) all apart h = by (y == x) refl h where
-    far : (low : ℕ) (zs : List ℕ) → AllAbove low zs → is_among x zs ≡ true → low < x
-    far low [] all h = absurd (cc)
-    far low (z ∷ zs) all h = one (z == x) refl h (far low zs all.1) where
-      one : (b : Bool) → (z == x) ≡ b → (b || is_among x zs) ≡ true → (is_among x zs ≡ true → low < x) → low < x
-      one true e h more = let f = eqb-true z x e in omega (arith, all.0)
-      one false e h more = more h
-    by : (b : Bool) → (y == x) ≡ b → (b || is_among x (z ∷ zs)) ≡ true → y < x
-    by true e h = absurd (apart (sym (eqb-true y x e)))
-    by false e h = far y (z ∷ zs) all h
-  least : (b : Bool) → (x == y) ≡ b → x ≡ y
-  least true f = eqb-true x y f
-  least false f =
-    let apart : x ≡ y → ⊥ = eqb-false x y f in
-    let one : y < x = below x y xs ys b.0 apart (sym (e x) ∙ rw (eq-eqb x x refl) refl) in
-    let two : x < y = below y x ys xs a.0 (λ g. apart (sym g)) (e y ∙ rw (eq-eqb y y refl) refl) in
-    absurd (omega arith)
-  rest : (t : ℕ) (b : Bool) → (x == t) ≡ b → x ≡ y → is_among t xs ≡ is_among t ys
-  rest t true f same =
-    let here = eqb-true x t f in
-    above-out t xs (subst (λ (n : ℕ). AllAbove n xs) here a.0) ∙ sym (above-out t ys (subst (λ (n : ℕ). AllAbove n ys) (sym same ∙ here) b.0))
-  rest t false f same =
-    let g : (y == t) ≡ false = ap (λ (n : ℕ). n == t) (sym same) ∙ f in
-    let h : (false || is_among t xs) ≡ (false || is_among t ys) = ap (λ c. c || is_among t xs) (sym f) ∙ e t ∙ ap (λ c. c || is_among t ys) g in h
+      below : (x y : ℕ) (xs ys : List ℕ) → AllAbove y ys → (x ≡ y → ⊥) → is_among x (y ∷ ys) ≡ true → y < x
+      below x y xs [] all apart h = absurd (apart (sym (by (y == x) refl h))) where
+        by : (b : Bool) → (y == x) ≡ b → (b || false) ≡ true → y ≡ x
+        by true e h = eqb-true y x e
+        by false e h = absurd (cc)
+      below x y xs (z ∷ zs) all apart h = by (y == x) refl h where
+        far : (low : ℕ) (zs : List ℕ) → AllAbove low zs → is_among x zs ≡ true → low < x
+        far low [] all h = absurd (cc)
+        far low (z ∷ zs) all h = one (z == x) refl h (far low zs all.1) where
+          one : (b : Bool) → (z == x) ≡ b → (b || is_among x zs) ≡ true → (is_among x zs ≡ true → low < x) → low < x
+          one true e h more = let f = eqb-true z x e in omega (arith, all.0)
+          one false e h more = more h
+
+        by : (b : Bool) → (y == x) ≡ b → (b || is_among x (z ∷ zs)) ≡ true → y < x
+        by true e h = absurd (apart (sym (eqb-true y x e)))
+        by false e h = far y (z ∷ zs) all h
+
+      least : (b : Bool) → (x == y) ≡ b → x ≡ y
+      least true f = eqb-true x y f
+      least false f =
+          let apart : x ≡ y → ⊥ = eqb-false x y f in
+          let one : y < x = below x y xs ys b.0 apart (sym (e x) ∙ rw (eq-eqb x x refl) refl) in
+          let two : x < y = below y x ys xs a.0 (λ g. apart (sym g)) (e y ∙ rw (eq-eqb y y refl) refl) in
+          absurd (omega arith)
+
+      rest : (t : ℕ) (b : Bool) → (x == t) ≡ b → x ≡ y → is_among t xs ≡ is_among t ys
+      rest t true f same =
+          let here = eqb-true x t f in
+          above-out t xs (subst (λ (n : ℕ). AllAbove n xs) here a.0) ∙ sym (above-out t ys (subst (λ (n : ℕ). AllAbove n ys) (sym same ∙ here) b.0))
+      rest t false f same =
+          let g : (y == t) ≡ false = ap (λ (n : ℕ). n == t) (sym same) ∙ f in
+          let h : (false || is_among t xs) ≡ (false || is_among t ys) = ap (λ c. c || is_among t xs) (sym f) ∙ e t ∙ ap (λ c. c || is_among t ys) g in h
 
 same-truth : (a b : Bool) (P : Type 0) → ((a ≡ true) ↔ P) → ((b ≡ true) ↔ P) → a ≡ b
 same-truth true b P p q = sym (q.1 (p.0 refl))
 same-truth false true P p q = absurd (both_ways false refl (p.1 (q.0 refl)))
 same-truth false false P p q = refl
 
-pub one-family : (links : List Inherits) (table : ℕ) (one other : List ℕ) → IsFamily links table one → IsFamily links table other → one ≡ other
-one-family links table one other a b =
+pub one_family : (links : List Inherits) (table : ℕ) (one other : List ℕ) → IsFamily links table one → IsFamily links table other → one ≡ other
+one_family links table one other a b =
     a.first ∙ ap (λ ts. table ∷ ts) (same-rest a.others b.others a.ascends b.ascends (λ t. same-truth _ _ _ (a.members t) (b.members t))) ∙ sym b.first
 
 pub family-listed : {E : Type 0} (links : List Inherits) (table : ℕ) (r : Result (List ℕ) E) (lines first second : List Line) (marks slice : List Bool) → links_in lines ≡ links → AreLines lines

@@ -139,8 +139,8 @@ put-are_lines table lines out are =
       tables = up;
       children = all-put table lines are.children;
       known = λ c p h.
-        let before : is_among c (children_in lines p) ≡ true = sym (links-are c p lines are.tables) ∙ ap (λ ls. has_link ls c p) (sym (links-put table lines)) ∙ links-are c p new up ∙ h in
-        ap (is_among c) ts ∙ among-put c table (tables_of lines) ∙ or-left _ _ (are.known c p before);
+          let before : is_among c (children_in lines p) ≡ true = sym (links-are c p lines are.tables) ∙ ap (λ ls. has_link ls c p) (sym (links-put table lines)) ∙ links-are c p new up ∙ h in
+          ap (is_among c) ts ∙ among-put c table (tables_of lines) ∙ or-left _ _ (are.known c p before);
     }
 
 pub put-keeps : (q table : ℕ) (lines : List Line) → has_line lines q ≡ true → has_line (put_line (record { table = table; children = [] }) lines) q ≡ true
@@ -173,9 +173,11 @@ children-with q change (line ∷ lines) p h = by (line.table == q) refl h (child
   other true false e f s more = more ∙ rw e refl
   other false true e f s more = refl
   other false false e f s more = more ∙ rw e refl
+
   same_by : (b : Bool) → cond b (change line.children) (children_in lines p) ≡ cond b (change line.children) (cond b line.children (children_in lines p))
   same_by true = refl
   same_by false = refl
+
   by : (b : Bool) → (line.table == q) ≡ b → (b || has_line lines q) ≡ true
       → (has_line lines q ≡ true → children_in (with_children q change lines) p ≡ cond (q == p) (change (children_in lines q)) (children_in lines p))
       → children_in (cond b (record line { children = change line.children } ∷ lines) (line ∷ with_children q change lines)) p ≡ cond (q == p) (change (cond b line.children (children_in lines q))) (cond (line.table == p) line.children (children_in lines p))

@@ -77,9 +77,11 @@ mark-marks q t (line ∷ lines) (m ∷ marks) len = by (line.table == q) refl (l
   or-true : (b : Bool) → true ≡ (b || true)
   or-true true = refl
   or-true false = refl
+
   or-false : (b : Bool) → b ≡ (b || false)
   or-false true = refl
   or-false false = refl
+
   by : (b : Bool) → (line.table == q) ≡ b → (d : Bool) → (line.table == t) ≡ d → (e : Bool) → (q == t) ≡ e
       → marked lines (with_mark lines marks q) t ≡ (marked lines marks t || (e && has_line lines q))
       → marked (line ∷ lines) (cond b (true ∷ marks) (m ∷ with_mark lines marks q)) t ≡ (cond d m (marked lines marks t) || (e && (b || has_line lines q)))

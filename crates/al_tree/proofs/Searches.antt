@@ -64,9 +64,9 @@ finds_by lines s c len true e =
       grows = λ t h. mark-marks c t lines s.marks len ∙ or_left _ _ h;
       todo_grows = λ t h. among-push t c s.todo ∙ or_left _ _ h;
       marks = λ t h. either _ (marked lines s.marks t) ((c == t) && has_line lines c) (λ m. inl m)
-        (λ m. let same = eqb-true c t (and_parts (c == t) _ m).0 in inr (sym same, among-push t c s.todo ∙ or_right _ _ (and_parts (c == t) _ m).0)) (sym (mark-marks c t lines s.marks len) ∙ h);
+          (λ m. let same = eqb-true c t (and_parts (c == t) _ m).0 in inr (sym same, among-push t c s.todo ∙ or_right _ _ (and_parts (c == t) _ m).0)) (sym (mark-marks c t lines s.marks len) ∙ h);
       todo = λ t h. either _ (is_among t s.todo) (c == t) (λ m. inl m)
-        (λ m. inr (mark-marks c t lines s.marks len ∙ or_right _ _ (and_from _ _ m line))) (sym (among-push t c s.todo) ∙ h);
+          (λ m. inr (mark-marks c t lines s.marks len ∙ or_right _ _ (and_from _ _ m line))) (sym (among-push t c s.todo) ∙ h);
       there = λ h. mark-marks c c lines s.marks len ∙ or_right _ _ (and_from _ _ here line);
     }
 finds_by lines s c len false e = record {
@@ -101,13 +101,14 @@ amid-found lines root next c s after are f child amid =
       reached = reached-on lines root s after c next f amid.reached;
       closed = λ t r. closed_by t r;
     } where
-  kept : (t : ℕ) → ((t ≡ next) ⊎ ((is_among t s.todo ≡ true) ⊎ AreMarked lines s.marks (children_in lines t))) → (t ≡ next) ⊎ ((is_among t after.todo ≡ true) ⊎ AreMarked lines after.marks (children_in lines t))
-  kept t (inl e) = inl e
-  kept t (inr (inl w)) = inr (inl (f.todo_grows t w))
-  kept t (inr (inr m)) = inr (inr (λ d h. f.grows d (m d h)))
-  closed_by : (t : ℕ) → IsReached lines root after.marks t → (t ≡ next) ⊎ ((is_among t after.todo ≡ true) ⊎ AreMarked lines after.marks (children_in lines t))
-  closed_by t (inl e) = kept t (amid.closed t (inl e))
-  closed_by t (inr m) = ⊎_elim (λ before. kept t (amid.closed t (inr before))) (λ new. inr (inl new.1)) (f.marks t m)
+      kept : (t : ℕ) → ((t ≡ next) ⊎ ((is_among t s.todo ≡ true) ⊎ AreMarked lines s.marks (children_in lines t))) → (t ≡ next) ⊎ ((is_among t after.todo ≡ true) ⊎ AreMarked lines after.marks (children_in lines t))
+      kept t (inl e) = inl e
+      kept t (inr (inl w)) = inr (inl (f.todo_grows t w))
+      kept t (inr (inr m)) = inr (inr (λ d h. f.grows d (m d h)))
+
+      closed_by : (t : ℕ) → IsReached lines root after.marks t → (t ≡ next) ⊎ ((is_among t after.todo ≡ true) ⊎ AreMarked lines after.marks (children_in lines t))
+      closed_by t (inl e) = kept t (amid.closed t (inl e))
+      closed_by t (inr m) = ⊎_elim (λ before. kept t (amid.closed t (inr before))) (λ new. inr (inl new.1)) (f.marks t m)
 
 -- ---- all children of a table found
 
@@ -123,7 +124,7 @@ goes lines root next s (c ∷ children) are each amid =
     let child : is_among c (children_in lines next) ≡ true = each c (or_left _ _ (eq-eqb c c refl)) in
     let f : Finds lines s (found lines s c) c = finds lines s c amid.len in
     let more : Goes lines root next (found lines s c) (fold (found lines) (found lines s c) children) children =
-      goes lines root next (found lines s c) children are (λ d h. each d (or_right _ _ h)) (amid-found lines root next c s (found lines s c) are f child amid) in
+    goes lines root next (found lines s c) children are (λ d h. each d (or_right _ _ h)) (amid-found lines root next c s (found lines s c) are f child amid) in
     let first : marked lines (fold (found lines) (found lines s c) children).marks c ≡ true = more.grows c (f.there (are.known c next child)) in
     record {
       amid = more.amid;

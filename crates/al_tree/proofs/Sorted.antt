@@ -87,10 +87,10 @@ put-ascends n (x ∷ xs) out all = by (nat_lt n x) refl (x == n) refl out (λ o.
   by b e true s o more = absurd (cc)
   by true e false s o more = let h = ltb-true n x e in ((h, above-lower n x xs h all.0), all)
   by false e false s o more =
-    let apart : x ≡ n → ⊥ = eqb-false x n s in
-    let least = ltb-false n x e in
-    let h : x < n = omega arith in
-    (above-put x n xs h all.0, more o)
+      let apart : x ≡ n → ⊥ = eqb-false x n s in
+      let least = ltb-false n x e in
+      let h : x < n = omega arith in
+      (above-put x n xs h all.0, more o)
 
 above-without : (least n : ℕ) (xs : List ℕ) → AllAbove least xs → AllAbove least (without n xs)
 above-without least n [] all = tt

@@ -30,7 +30,7 @@ pub record Search : Type 0 where
 abbrev pub found : List Line → Search → ℕ → Search
 found lines search table =
     if unmarked lines search.marks table then
-      record { marks = with_mark lines search.marks table; todo = search.todo ++ table ∷ [] }
+    record { marks = with_mark lines search.marks table; todo = search.todo ++ table ∷ [] }
     else search
 
 -- how many marks are not set

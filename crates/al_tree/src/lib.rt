@@ -2,10 +2,14 @@
 #![tactic(auto)]
 
 mod fault;
+mod laws;
 mod line;
 mod search;
+#[cfg(test)]
+mod tests;
 mod tree;
 
 pub use fault::LinkFault;
+pub use laws::one_family;
 pub use line::Line;
 pub use tree::Tree;

@@ -42,11 +42,7 @@ fn place_for(table: u32, lines: &[Line]) -> usize
 }
 
 /// Gives a table a line, where it has none.
-pub(crate) fn add_line(
-    alloc: Global,
-    lines: &mut Vec<Line>,
-    table: u32,
-) -> Result<(), NoMemory>
+pub(crate) fn add_line(alloc: Global, lines: &mut Vec<Line>, table: u32) -> Result<(), NoMemory>
     ensures ok { OnOk result (lines.new.items ≡ (if has_line lines.old.items table then lines.old.items else put_line (record { table = table; children = [] }) lines.old.items)) }
     ensures err { OnErr result (lines.new.items ≡ lines.old.items) }
 {

@@ -31,12 +31,7 @@ fn mark_of(table: u32, lines: &[Line], marks: &[bool]) -> Option<usize>
 }
 
 /// Marks a table that isn't marked yet; its children are to be looked at then.
-fn find(
-    table: u32,
-    lines: &[Line],
-    marks: &mut [bool],
-    todo: &mut Vec<u32>,
-) -> Result<(), NoMemory>
+fn find(table: u32, lines: &[Line], marks: &mut [bool], todo: &mut Vec<u32>) -> Result<(), NoMemory>
     requires { length marks.old ≡ length lines.now }
     ensures ok { OnOk result (found lines.now (record { marks = marks.old; todo = todo.old.items }) table ≡ record { marks = marks.new; todo = todo.new.items }) }
     ensures work { OnOk result (work marks.new todo.new.items ≤ work marks.old todo.old.items) }
@@ -66,11 +61,7 @@ fn find_each(
 }
 
 /// Marks all that descends from a table.
-pub(crate) fn descendants(
-    alloc: Global,
-    lines: &[Line],
-    table: u32,
-) -> Result<Vec<bool>, NoMemory>
+pub(crate) fn descendants(alloc: Global, lines: &[Line], table: u32) -> Result<Vec<bool>, NoMemory>
     requires { AreLines lines.now }
     ensures len { IfOk result (λ marks. length marks.items ≡ length lines.now) }
     ensures marks { IfOk result (λ marks. (t : ℕ) → (marked lines.now marks.items t ≡ true) ↔ Descends (links_in lines.now) table t) }
