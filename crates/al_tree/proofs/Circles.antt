@@ -1,11 +1,11 @@
 -- Links that are added and ended, and circles.
-use Rattle.std.proofs.Common.{◌≡◌, ℕ, ◌⊎◌, inl, inr, ⊎_elim, Bool, true, false, cond, not, ◌||◌, ◌&&◌, List, [], ◌∷◌, refl, sym, ◌∙◌, ap, subst, Result, Ok, Err, OnOk, OnErr}
+use Rattle.std.proofs.Common.{◌≡◌, ℕ, ◌⊎◌, inl, inr, ⊎_elim, Bool, true, false, cond, not, ◌||◌, ◌&&◌, List, [], refl, sym, ◌∙◌, ap, subst, Result, Ok, Err, OnOk, OnErr}
 use Rattle.std.specs.Prelude.{◌==◌}
-use Rattle.std.proofs.lemmas.Bool.{eqb-true, eqb-false, eq-eqb, or_cases, and_parts, or_left, or_right, and_from, both_ways}
+use Rattle.std.proofs.lemmas.Bool.{eqb-true, or_cases, and_parts, or_left}
 use Rattle.al_tree.specs.declared.line.Line.{Line}
-use Rattle.al_tree.specs.Ascending.{Ascends, is_among, put, without}
+use Rattle.al_tree.specs.Ascending.{is_among, put, without}
 use Rattle.al_tree.specs.Links.{Inherits, Descends, has_link, children_of, ClosesCircle, HasNoCircle, HasOneMore, HasOneLess}
-use Rattle.al_tree.specs.Lines.{AreLines, links_in, children_in, has_line, tables_of, put_line, with_children}
+use Rattle.al_tree.specs.Lines.{AreLines, links_in, children_in, has_line, put_line, with_children}
 use Rattle.al_tree.proofs.Sorted.{among-put, among-without, put-ascends, without-ascends}
 use Rattle.al_tree.proofs.LineLemmas.{links-are, link-child, links-put, put-are_lines, put-keeps, put-there, tables-with, children-with, all-with, with-none, no-line-no-children}
 

@@ -1,14 +1,13 @@
 -- The family that the marks give.
-use Rattle.std.proofs.Common.{◌≡◌, ℕ, ◌<◌, ◌↔◌, Bool, true, false, cond, not, ◌||◌, ◌&&◌, List, [], ◌∷◌, refl, sym, ◌∙◌, ap, subst, arith, length, Result, Ok, Err, IfOk}
+use Rattle.std.proofs.Common.{◌≡◌, ℕ, ◌<◌, ◌↔◌, Bool, true, false, cond, not, ◌||◌, ◌&&◌, List, [], ◌∷◌, refl, sym, ◌∙◌, ap, subst, arith, Result, Ok, Err, IfOk}
 use Rattle.std.specs.Prelude.{◌==◌}
 use Rattle.std.proofs.lemmas.Bool.{eqb-true, eqb-false, eq-eqb, ne_eqb, and_parts, and_from, not-true, not_from_false, both_ways}
 use Rattle.al_tree.specs.declared.line.Line.{Line}
 use Rattle.al_tree.specs.Ascending.{AllAbove, Ascends, is_among}
 use Rattle.al_tree.specs.Links.{Inherits, Descends, IsFamily}
-use Rattle.al_tree.specs.Lines.{AreLines, links_in, tables_of, has_line}
+use Rattle.al_tree.specs.Lines.{AreLines, links_in, tables_of}
 use Rattle.al_tree.specs.Marks.{marked, chosen}
 use Rattle.al_tree.proofs.Sorted.{above-out}
-use Rattle.al_tree.proofs.Marking.{no-mark}
 
 above-chosen : (least table : ℕ) (lines : List Line) (marks : List Bool) → AllAbove least (tables_of lines) → AllAbove least (chosen table lines marks)
 above-chosen least table [] marks all = tt

@@ -1,15 +1,15 @@
 -- The lines, and the links that they stand for.
-use Rattle.std.proofs.Common.{◌≡◌, ℕ, ◌+◌, ◌<◌, ◌≤◌, Bool, true, false, cond, not, ◌||◌, ◌&&◌, List, [], ◌∷◌, ◌++◌, refl, sym, ◌∙◌, ap, subst, arith, nat_lt, eqb, zero, suc, append_assoc, slice_set, get_or, length, Option, Some, None, position}
+use Rattle.std.proofs.Common.{◌≡◌, ℕ, ◌+◌, Bool, true, false, cond, not, ◌||◌, ◌&&◌, List, [], ◌∷◌, ◌++◌, refl, sym, ◌∙◌, ap, subst, arith, nat_lt, zero, suc, slice_set, get_or, Option, Some, None, position}
 use Rattle.std.specs.Prelude.{◌==◌, is_some}
 use Rattle.std.specs.List.{insert, position_or_len, list_any}
 use Rattle.std.proofs.lemmas.Grind.{common_steps}
-use Rattle.std.proofs.lemmas.Bool.{eqb-true, eqb-false, ne_eqb, eq-eqb, and_parts, both_ways}
+use Rattle.std.proofs.lemmas.Bool.{eqb-true, eqb-false, ne_eqb, eq-eqb}
 use Rattle.al_tree.specs.declared.line.Line.{Line}
-use Rattle.al_tree.specs.Ascending.{AllAbove, Ascends, is_among, put, without}
+use Rattle.al_tree.specs.Ascending.{AllAbove, Ascends, is_among, put}
 use Rattle.al_tree.specs.Links.{Inherits, has_link, children_of}
 use Rattle.al_tree.specs.Lines.{links_of, links_in, tables_of, children_in, has_line, AllAscend, AreLines, put_line, with_children}
 use Rattle.al_tree.proofs.Places.{IsAt, is_at, none_passes, one_passes}
-use Rattle.al_tree.proofs.Sorted.{above-out, among-put, put-ascends}
+use Rattle.al_tree.proofs.Sorted.{among-put, put-ascends}
 
 -- a link is there where its child is among the parent's children
 link-child_by : (c p : ℕ) (link : Inherits) (links : List Inherits) (d : Bool) → has_link links c p ≡ is_among c (children_of links p)

@@ -1,12 +1,12 @@
 -- A search through the descendants of a table: what is marked, and what is left to look at.
-use Rattle.std.proofs.Common.{◌≡◌, ℕ, ◌+◌, ◌*◌, ◌≤◌, ◌<◌, ◌↔◌, ◌⊎◌, inl, inr, ⊎_elim, Bool, true, false, cond, not, ◌||◌, ◌&&◌, List, [], ◌∷◌, ◌++◌, refl, sym, ◌∙◌, ap, subst, arith, fold, length, replicate, take, ◌-◌}
+use Rattle.std.proofs.Common.{◌≡◌, ℕ, ◌↔◌, ◌⊎◌, inl, inr, ⊎_elim, Bool, true, false, cond, ◌||◌, ◌&&◌, List, [], ◌∷◌, ◌++◌, refl, sym, ◌∙◌, ap, subst, arith, fold, length, replicate, take, ◌-◌}
 use Rattle.std.specs.Prelude.{◌==◌}
-use Rattle.std.proofs.lemmas.Bool.{eqb-true, eqb-false, eq-eqb, or_cases, and_parts, or_left, or_right, and_from, cases_Bool, both_ways, cases_eq}
+use Rattle.std.proofs.lemmas.Bool.{eqb-true, eq-eqb, or_cases, and_parts, or_left, or_right, and_from, both_ways}
 use Rattle.std.proofs.lemmas.List.Folds.{list_any-append}
 use Rattle.std.proofs.lemmas.List.{length-replicate}
 use Rattle.al_tree.specs.declared.line.Line.{Line}
 use Rattle.al_tree.specs.Ascending.{is_among}
-use Rattle.al_tree.specs.Links.{Inherits, Descends, has_link}
+use Rattle.al_tree.specs.Links.{Descends, has_link}
 use Rattle.al_tree.specs.Lines.{AreLines, links_in, children_in, has_line}
 use Rattle.al_tree.specs.Marks.{Search, marked, unmarked, with_mark, found}
 use Rattle.al_tree.proofs.LineLemmas.{links-are}

@@ -1,7 +1,7 @@
 -- Cases of the definitions, and wrong answers that they refuse.
 use Rattle.std.proofs.Common.{arith}
 use Rattle.std.specs.Prelude.{◌≡◌, ℕ, List, [], ◌∷◌, true, false, refl}
-use Rattle.al_tree.specs.Ascending.{Ascends, put, without, is_among}
+use Rattle.al_tree.specs.Ascending.{Ascends, put, without}
 use Rattle.al_tree.specs.Links.{Inherits, has_link, children_of, Descends, HasNoCircle}
 
 abbrev pub link : ℕ → ℕ → Inherits

@@ -1,6 +1,5 @@
 -- How links are kept: a line for each table that has a parent or a child, with its children.
 use Rattle.std.specs.Prelude.{◌≡◌, ℕ, List, [], ◌∷◌, ◌++◌, Bool, true, ◌==◌, nat_lt, if◌then◌else◌}
-use Rattle.std.specs.List.{list_any}
 use Rattle.al_tree.specs.declared.line.Line.{Line}
 use Rattle.al_tree.specs.Ascending.{Ascends, is_among}
 use Rattle.al_tree.specs.Links.{Inherits}

@@ -1,5 +1,4 @@
-use Rattle.std.proofs.Common.{◌≡◌, ◌∙◌, sym, ◌==◌}
-use Rattle.al_tree.specs.declared.line.Line.{Line}
+use Rattle.std.proofs.Common.{sym}
 use Rattle.al_tree.specs.Ascending.{without}
 use Rattle.al_tree.proofs.LineLemmas.{changed-line, none-changed}
 use Rattle.al_tree.proofs.line.cut_line.Goals as goal

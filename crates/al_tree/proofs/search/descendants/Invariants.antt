@@ -1,4 +1,3 @@
-use Rattle.std.proofs.Common.{ℕ}
 use Rattle.al_tree.specs.Marks.{work}
 use Rattle.al_tree.proofs.Searches.{Searching}
 use Rattle.al_tree.proofs.search.descendants.Given as goal

@@ -1,4 +1,4 @@
-use Rattle.std.proofs.Common.{◌≡◌, ◌∙◌, sym, ◌==◌}
+use Rattle.std.proofs.Common.{◌∙◌, sym, ◌==◌}
 use Rattle.al_tree.specs.declared.line.Line.{Line}
 use Rattle.al_tree.proofs.Places.{IsAt, is_at}
 use Rattle.al_tree.proofs.LineLemmas.{no-line-at}

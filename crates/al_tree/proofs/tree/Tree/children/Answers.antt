@@ -1,8 +1,6 @@
-use Rattle.std.proofs.Common.{◌≡◌, ◌∙◌, sym, ap, subst, ℕ, List, ◌==◌, Some, None}
-use Rattle.al_tree.specs.declared.line.Line.{Line}
+use Rattle.std.proofs.Common.{◌∙◌, sym, ap, subst, List}
 use Rattle.al_tree.specs.Ascending.{Ascends}
 use Rattle.al_tree.specs.Links.{Inherits, children_of}
-use Rattle.al_tree.specs.Lines.{children_in, has_line}
 use Rattle.al_tree.proofs.LineLemmas.{children-found, children-none, children-are, ascend-in}
 use Rattle.al_tree.proofs.tree.Tree.children.Goals as goal
 

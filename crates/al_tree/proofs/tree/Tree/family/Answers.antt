@@ -1,5 +1,3 @@
-use Rattle.std.proofs.Common.{◌≡◌, ◌∙◌, sym, subst, List}
-use Rattle.al_tree.specs.Links.{Inherits, IsFamily}
 use Rattle.al_tree.proofs.Families.{family-listed}
 use Rattle.al_tree.proofs.tree.Tree.family.Goals as goal
 

@@ -1,4 +1,4 @@
-use Rattle.std.proofs.Common.{◌≡◌, ◌∙◌, sym, true, false}
+use Rattle.std.proofs.Common.{◌∙◌, sym}
 use Rattle.std.proofs.lemmas.Bool.{iff_false}
 use Rattle.al_tree.proofs.Circles.{is-link, more-no-circle}
 use Rattle.al_tree.proofs.tree.Tree.link.Goals as goal

@@ -1,10 +1,8 @@
-use Rattle.std.proofs.Common.{◌≡◌, ◌∙◌, sym, ap, subst, true, false, List, ℕ}
+use Rattle.std.proofs.Common.{◌≡◌, ◌∙◌, sym, ap, subst, false, List}
 use Rattle.std.proofs.lemmas.Result.{on_ok_weaker, on_err_weaker}
 use Rattle.al_tree.specs.declared.line.Line.{Line}
-use Rattle.al_tree.specs.Ascending.{is_among, put}
-use Rattle.al_tree.specs.Links.{Inherits, has_link, HasOneMore}
-use Rattle.al_tree.specs.Lines.{AreLines, links_in, children_in, has_line, with_children}
-use Rattle.al_tree.proofs.LineLemmas.{links-are}
+use Rattle.al_tree.specs.Links.{has_link, HasOneMore}
+use Rattle.al_tree.specs.Lines.{AreLines, links_in}
 use Rattle.al_tree.proofs.Circles.{Lined, lined, Noted, noted, there-already, is-link, kept-either, told-err}
 use Rattle.al_tree.proofs.tree.Tree.note.Goals as goal
 
