@@ -1,0 +1,125 @@
+-- The family that the marks give.
+use Rattle.std.proofs.Common.{◌≡◌, ℕ, ◌<◌, ◌↔◌, Bool, true, false, cond, not, ◌||◌, ◌&&◌, List, [], ◌∷◌, refl, sym, ◌∙◌, ap, subst, arith, Result, Ok, Err, IfOk}
+use Rattle.std.specs.Prelude.{◌==◌}
+use Rattle.std.proofs.lemmas.Bool.{eqb-true, eqb-false, eq-eqb, ne_eqb, and_parts, and_from, not-true, not_from_false, both_ways}
+use Rattle.al_tree.specs.declared.line.Line.{Line}
+use Rattle.al_tree.specs.Ascending.{AllAbove, Ascends, is_among}
+use Rattle.al_tree.specs.Links.{Inherits, Descends, IsFamily}
+use Rattle.al_tree.specs.Lines.{AreLines, links_in, tables_of}
+use Rattle.al_tree.specs.Marks.{marked, chosen}
+use Rattle.al_tree.proofs.Sorted.{above-out}
+
+above-chosen : (least table : ℕ) (lines : List Line) (marks : List Bool) → AllAbove least (tables_of lines) → AllAbove least (chosen table lines marks)
+above-chosen least table [] marks all = tt
+above-chosen least table (line ∷ lines) [] all = tt
+above-chosen least table (line ∷ lines) (m ∷ marks) all = by (m && not (line.table == table)) (above-chosen least table lines marks all.1) where
+  by : (b : Bool) → AllAbove least (chosen table lines marks) → AllAbove least (cond b (line.table ∷ chosen table lines marks) (chosen table lines marks))
+  by true more = (all.0, more)
+  by false more = more
+
+chosen-ascends : (table : ℕ) (lines : List Line) (marks : List Bool) → Ascends (tables_of lines) → Ascends (chosen table lines marks)
+chosen-ascends table [] marks all = tt
+chosen-ascends table (line ∷ lines) [] all = tt
+chosen-ascends table (line ∷ lines) (m ∷ marks) all = by (m && not (line.table == table)) (chosen-ascends table lines marks all.1) where
+  by : (b : Bool) → Ascends (chosen table lines marks) → Ascends (cond b (line.table ∷ chosen table lines marks) (chosen table lines marks))
+  by true more = (above-chosen line.table table lines marks all.0, more)
+  by false more = more
+
+among-chosen : (t table : ℕ) (lines : List Line) (marks : List Bool) → Ascends (tables_of lines) → is_among t (chosen table lines marks) ≡ (marked lines marks t && not (t == table))
+among-chosen t table [] marks all = refl
+among-chosen t table (line ∷ lines) [] all = refl
+among-chosen t table (line ∷ lines) (m ∷ marks) all = by (line.table == t) refl m (among-chosen t table lines marks all.1) where
+  other : (b : Bool) → (line.table == t) ≡ false → is_among t (chosen table lines marks) ≡ (marked lines marks t && not (t == table))
+      → is_among t (cond b (line.table ∷ chosen table lines marks) (chosen table lines marks)) ≡ (marked lines marks t && not (t == table))
+  other true e more = rw e more
+  other false e more = more
+
+  out : line.table ≡ t → is_among t (chosen table lines marks) ≡ false
+  out e = above-out t (chosen table lines marks) (above-chosen t table lines marks (subst (λ (n : ℕ). AllAbove n (tables_of lines)) e all.0))
+
+  same : (m b : Bool) → line.table ≡ t → (line.table == t) ≡ true → is_among t (chosen table lines marks) ≡ false
+      → is_among t (cond (m && not b) (line.table ∷ chosen table lines marks) (chosen table lines marks)) ≡ (m && not b)
+  same true true e f o = o
+  same true false e f o = rw f refl
+  same false b e f o = o
+
+  by : (b : Bool) → (line.table == t) ≡ b → (m : Bool) → is_among t (chosen table lines marks) ≡ (marked lines marks t && not (t == table))
+      → is_among t (cond (m && not (line.table == table)) (line.table ∷ chosen table lines marks) (chosen table lines marks)) ≡ (cond b m (marked lines marks t) && not (t == table))
+  by true e m more =
+      let here = eqb-true line.table t e in
+      same m (line.table == table) here e (out here) ∙ ap (λ (n : ℕ). m && not (n == table)) here
+  by false e m more = other _ e more
+
+pub family-is : (lines : List Line) (table : ℕ) (marks : List Bool) (family : List ℕ) → AreLines lines
+    → ((t : ℕ) → (marked lines marks t ≡ true) ↔ Descends (links_in lines) table t)
+    → family ≡ table ∷ chosen table lines marks → IsFamily (links_in lines) table family
+family-is lines table marks family are found e = record {
+  others = chosen table lines marks;
+  first = e;
+  ascends = chosen-ascends table lines marks are.tables;
+  members = λ t.
+      let same = among-chosen t table lines marks are.tables in (
+        λ h. let p = and_parts (marked lines marks t) (not (t == table)) (sym same ∙ h) in ((found t).0 p.0, eqb-false t table (not-true (t == table) p.1)),
+        λ d. same ∙ and_from _ _ ((found t).1 d.0) (not_from_false (t == table) (ne_eqb t table d.1)),
+      );
+}
+
+-- two families of a table are the same list
+
+same-rest : (xs ys : List ℕ) → Ascends xs → Ascends ys → ((t : ℕ) → is_among t xs ≡ is_among t ys) → xs ≡ ys
+same-rest [] [] a b e = refl
+same-rest [] (y ∷ ys) a b e = absurd (both_ways (is_among y (y ∷ ys)) (sym (e y)) (rw (eq-eqb y y refl) refl))
+same-rest (x ∷ xs) [] a b e = absurd (both_ways (is_among x (x ∷ xs)) (e x) (rw (eq-eqb x x refl) refl))
+same-rest (x ∷ xs) (y ∷ ys) a b e =
+    let same : x ≡ y = least (x == y) refl in
+    rw same (ap (λ zs. y ∷ zs) (same-rest xs ys a.1 b.1 (λ t. rest t (x == t) refl same))) where
+      below : (x y : ℕ) (xs ys : List ℕ) → AllAbove y ys → (x ≡ y → ⊥) → is_among x (y ∷ ys) ≡ true → y < x
+      below x y xs [] all apart h = absurd (apart (sym (by (y == x) refl h))) where
+        by : (b : Bool) → (y == x) ≡ b → (b || false) ≡ true → y ≡ x
+        by true e h = eqb-true y x e
+        by false e h = absurd (cc)
+      below x y xs (z ∷ zs) all apart h = by (y == x) refl h where
+        far : (low : ℕ) (zs : List ℕ) → AllAbove low zs → is_among x zs ≡ true → low < x
+        far low [] all h = absurd (cc)
+        far low (z ∷ zs) all h = one (z == x) refl h (far low zs all.1) where
+          one : (b : Bool) → (z == x) ≡ b → (b || is_among x zs) ≡ true → (is_among x zs ≡ true → low < x) → low < x
+          one true e h more = let f = eqb-true z x e in omega (arith, all.0)
+          one false e h more = more h
+
+        by : (b : Bool) → (y == x) ≡ b → (b || is_among x (z ∷ zs)) ≡ true → y < x
+        by true e h = absurd (apart (sym (eqb-true y x e)))
+        by false e h = far y (z ∷ zs) all h
+
+      least : (b : Bool) → (x == y) ≡ b → x ≡ y
+      least true f = eqb-true x y f
+      least false f =
+          let apart : x ≡ y → ⊥ = eqb-false x y f in
+          let one : y < x = below x y xs ys b.0 apart (sym (e x) ∙ rw (eq-eqb x x refl) refl) in
+          let two : x < y = below y x ys xs a.0 (λ g. apart (sym g)) (e y ∙ rw (eq-eqb y y refl) refl) in
+          absurd (omega arith)
+
+      rest : (t : ℕ) (b : Bool) → (x == t) ≡ b → x ≡ y → is_among t xs ≡ is_among t ys
+      rest t true f same =
+          let here = eqb-true x t f in
+          above-out t xs (subst (λ (n : ℕ). AllAbove n xs) here a.0) ∙ sym (above-out t ys (subst (λ (n : ℕ). AllAbove n ys) (sym same ∙ here) b.0))
+      rest t false f same =
+          let g : (y == t) ≡ false = ap (λ (n : ℕ). n == t) (sym same) ∙ f in
+          let h : (false || is_among t xs) ≡ (false || is_among t ys) = ap (λ c. c || is_among t xs) (sym f) ∙ e t ∙ ap (λ c. c || is_among t ys) g in h
+
+same-truth : (a b : Bool) (P : Type 0) → ((a ≡ true) ↔ P) → ((b ≡ true) ↔ P) → a ≡ b
+same-truth true b P p q = sym (q.1 (p.0 refl))
+same-truth false true P p q = absurd (both_ways false refl (p.1 (q.0 refl)))
+same-truth false false P p q = refl
+
+pub one_family : (links : List Inherits) (table : ℕ) (one other : List ℕ) → IsFamily links table one → IsFamily links table other → one ≡ other
+one_family links table one other a b =
+    a.first ∙ ap (λ ts. table ∷ ts) (same-rest a.others b.others a.ascends b.ascends (λ t. same-truth _ _ _ (a.members t) (b.members t))) ∙ sym b.first
+
+pub family-listed : {E : Type 0} (links : List Inherits) (table : ℕ) (r : Result (List ℕ) E) (lines first second : List Line) (marks slice : List Bool) → links_in lines ≡ links → AreLines lines
+    → first ≡ lines → ((t : ℕ) → (marked first marks t ≡ true) ↔ Descends (links_in first) table t) → second ≡ lines → slice ≡ marks
+    → IfOk r (λ family. family ≡ table ∷ chosen table second slice) → IfOk r (IsFamily links table)
+family-listed links table (Err e) lines first second marks slice view are a found b d h = tt
+family-listed links table (Ok family) lines first second marks slice view are a found b d h =
+    subst (λ (ls : List Inherits). IsFamily ls table family) view
+    (family-is lines table marks family are (subst (λ (ls : List Line). (t : ℕ) → (marked ls marks t ≡ true) ↔ Descends (links_in ls) table t) a found)
+    (h ∙ ap (λ (ls : List Line). table ∷ chosen table ls slice) b ∙ ap (λ (ms : List Bool). table ∷ chosen table lines ms) d))

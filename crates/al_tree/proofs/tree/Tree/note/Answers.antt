@@ -1,0 +1,45 @@
+use Rattle.std.proofs.Common.{◌≡◌, ◌∙◌, sym, ap, subst, false, List}
+use Rattle.std.proofs.lemmas.Result.{on_ok_weaker, on_err_weaker}
+use Rattle.al_tree.specs.declared.line.Line.{Line}
+use Rattle.al_tree.specs.Links.{has_link, HasOneMore}
+use Rattle.al_tree.specs.Lines.{AreLines, links_in}
+use Rattle.al_tree.proofs.Circles.{Lined, lined, Noted, noted, there-already, is-link, kept-either, told-err}
+use Rattle.al_tree.proofs.tree.Tree.note.Goals as goal
+
+pub returns-then-is_among-clause-ok : goal.returns-then-is_among-clause-ok
+returns-then-is_among-clause-ok c =
+    there-already c.args.self.now c.args.child c.args.parent (is-link c.args.self.now c.args.child c.args.parent _ _ c.children.ensures.value c.as_slice.ensures (sym c.is_among.ensures ∙ c.if-is_among.true))
+
+pub invariant_of-self-in_err-add_line-2 : goal.invariant_of-self-in_err-add_line-2
+invariant_of-self-in_err-add_line-2 c =
+    let one : Lined c.self.inside.lines.items c.add_line.new.lines.items c.args.child = lined _ _ _ c.in_ok-add_line.ensures.ok c.self.invariant.0 in
+    (subst AreLines (sym c.in_err-add_line-2.ensures.err) one.are, c.self.invariant.1)
+
+pub returns-in_err-add_line-2-clause-err : goal.returns-in_err-add_line-2-clause-err
+returns-in_err-add_line-2-clause-err c =
+    let one : Lined c.self.inside.lines.items c.add_line.new.lines.items c.args.child = lined _ _ _ c.in_ok-add_line.ensures.ok c.self.invariant.0 in
+    told-err c.from_residual-in_err-add_line-2.result (ap links_in c.in_err-add_line-2.ensures.err ∙ one.links ∙ c.self.view_is)
+
+pub invariant_of-self-2 : goal.invariant_of-self-2
+invariant_of-self-2 c =
+    let out : has_link c.args.self.now c.args.child c.args.parent ≡ false = is-link c.args.self.now c.args.child c.args.parent _ _ c.children.ensures.value c.as_slice.ensures (sym c.is_among.ensures ∙ c.if-is_among.false) in
+    let one : Lined c.self.inside.lines.items c.add_line.new.lines.items c.args.child = lined _ _ _ c.in_ok-add_line.ensures.ok c.self.invariant.0 in
+    let two : Lined c.add_line.new.lines.items c.add_line-2.new.lines.items c.args.parent = lined _ _ _ c.in_ok-add_line-2.ensures.ok one.are in
+    let n : Noted c.args.self.now c.add_line-2.new.lines.items c.args.child c.args.parent = noted _ _ _ _ _ _ c.self.invariant.0 c.self.view_is out one two in
+    (kept-either c.add_child.result AreLines _ _ _ c.add_child.ensures.ok c.add_child.ensures.err n.more_are n.are, c.self.invariant.1)
+
+pub returns-clause-ok : goal.returns-clause-ok
+returns-clause-ok c =
+    let out : has_link c.args.self.now c.args.child c.args.parent ≡ false = is-link c.args.self.now c.args.child c.args.parent _ _ c.children.ensures.value c.as_slice.ensures (sym c.is_among.ensures ∙ c.if-is_among.false) in
+    let one : Lined c.self.inside.lines.items c.add_line.new.lines.items c.args.child = lined _ _ _ c.in_ok-add_line.ensures.ok c.self.invariant.0 in
+    let two : Lined c.add_line.new.lines.items c.add_line-2.new.lines.items c.args.parent = lined _ _ _ c.in_ok-add_line-2.ensures.ok one.are in
+    let n : Noted c.args.self.now c.add_line-2.new.lines.items c.args.child c.args.parent = noted _ _ _ _ _ _ c.self.invariant.0 c.self.view_is out one two in
+    on_ok_weaker c.add_child.result (λ e. subst (λ (ls : List Line). HasOneMore c.args.self.now (links_in ls) c.args.child c.args.parent) (sym e) n.more) c.add_child.ensures.ok
+
+pub returns-clause-err : goal.returns-clause-err
+returns-clause-err c =
+    let out : has_link c.args.self.now c.args.child c.args.parent ≡ false = is-link c.args.self.now c.args.child c.args.parent _ _ c.children.ensures.value c.as_slice.ensures (sym c.is_among.ensures ∙ c.if-is_among.false) in
+    let one : Lined c.self.inside.lines.items c.add_line.new.lines.items c.args.child = lined _ _ _ c.in_ok-add_line.ensures.ok c.self.invariant.0 in
+    let two : Lined c.add_line.new.lines.items c.add_line-2.new.lines.items c.args.parent = lined _ _ _ c.in_ok-add_line-2.ensures.ok one.are in
+    let n : Noted c.args.self.now c.add_line-2.new.lines.items c.args.child c.args.parent = noted _ _ _ _ _ _ c.self.invariant.0 c.self.view_is out one two in
+    on_err_weaker c.add_child.result (λ e. ap links_in e ∙ n.same) c.add_child.ensures.err

@@ -1,0 +1,146 @@
+ghost use Rattle.std.specs.Prelude.{◌≡◌, [], ◌≤◌, ◌==◌, length, nat_lt, position, if◌then◌else◌, OnOk, OnErr};
+ghost use Rattle.std.specs.List.{position_or_len};
+ghost use Rattle.al_tree.specs.Ascending.{is_among, put, without};
+ghost use Rattle.al_tree.specs.Lines.{has_line, put_line, with_children};
+
+use al_values::{IdList, ListOf, NoMemory};
+use std::alloc::Global;
+use std::mem;
+
+/// A table that has a parent or a child.
+#[derive(Debug, Drop)]
+pub struct Line {
+    /// The table.
+    pub table: u32,
+    /// Its children, by ascending number.
+    pub children: IdList,
+}
+
+/// The place of a table's line, where it has one.
+pub(crate) fn line_of(table: u32, lines: &[Line]) -> Option<usize>
+    ensures { result ≡ position (λ line. line.table == table) lines.now }
+{
+    lines.iter().position(|line| line.table == table)
+}
+
+/// The place of the first line of a table above one, where there is one.
+fn line_above(table: u32, lines: &[Line]) -> Option<usize>
+    ensures { result ≡ position (λ line. nat_lt table line.table) lines.now }
+{
+    lines.iter().position(|line| table < line.table)
+}
+
+/// The place of the first line of a table above one, or the length.
+fn place_for(table: u32, lines: &[Line]) -> usize
+    ensures value { result ≡ position_or_len (λ line. nat_lt table line.table) lines.now }
+    ensures within { result ≤ length lines.now }
+{
+    match line_above(table, lines) {
+        Some(at) => at,
+        None => lines.len(),
+    }
+}
+
+/// Gives a table a line, where it has none.
+pub(crate) fn add_line(alloc: Global, lines: &mut Vec<Line>, table: u32) -> Result<(), NoMemory>
+    ensures ok { OnOk result (lines.new.items ≡ (if has_line lines.old.items table then lines.old.items else put_line (record { table = table; children = [] }) lines.old.items)) }
+    ensures err { OnErr result (lines.new.items ≡ lines.old.items) }
+{
+    if line_of(table, lines).is_some() {
+        return Ok(());
+    }
+    let line = Line {
+        table,
+        children: ListOf::new(alloc),
+    };
+    let at = place_for(table, lines);
+    lines.insert(at, line)?;
+    Ok(())
+}
+
+/// The place of the first number above one, where there is one.
+fn number_above(number: u32, numbers: &[u32]) -> Option<usize>
+    ensures { result ≡ position (λ other. nat_lt number other) numbers.now }
+{
+    numbers.iter().position(|other| number < *other)
+}
+
+/// The place of the first number above one, or the length.
+fn number_place(number: u32, numbers: &[u32]) -> usize
+    ensures value { result ≡ position_or_len (λ other. nat_lt number other) numbers.now }
+    ensures within { result ≤ length numbers.now }
+{
+    match number_above(number, numbers) {
+        Some(at) => at,
+        None => numbers.len(),
+    }
+}
+
+/// A number more in a vector.
+fn put(numbers: &mut Vec<u32>, number: u32) -> Result<(), NoMemory>
+    ensures ok { OnOk result (numbers.new.items ≡ put number numbers.old.items) }
+    ensures err { OnErr result (numbers.new.items ≡ numbers.old.items) }
+{
+    let at = number_place(number, numbers);
+    numbers.insert(at, number)?;
+    Ok(())
+}
+
+/// All but one number.
+fn cut(numbers: &mut Vec<u32>, number: u32)
+    ensures { numbers.new.items ≡ without number numbers.old.items }
+{
+    numbers.retain(|other| *other != number);
+}
+
+/// A child more.
+fn put_child(alloc: Global, children: &mut IdList, child: u32) -> Result<(), NoMemory>
+    ensures ok { OnOk result (children.new ≡ put child children.old) }
+    ensures err { OnErr result (children.new ≡ children.old) }
+{
+    let mut numbers = mem::replace(children, ListOf::new(alloc)).into_vec();
+    let done = put(&mut numbers, child);
+    *children = ListOf::from_vec(numbers);
+    done
+}
+
+/// A child less.
+fn cut_child(alloc: Global, children: &mut IdList, child: u32)
+    ensures { children.new ≡ without child children.old }
+{
+    let mut numbers = mem::replace(children, ListOf::new(alloc)).into_vec();
+    cut(&mut numbers, child);
+    *children = ListOf::from_vec(numbers);
+}
+
+/// Gives a table that has a line a child more.
+pub(crate) fn add_child(
+    alloc: Global,
+    lines: &mut Vec<Line>,
+    child: u32,
+    parent: u32,
+) -> Result<(), NoMemory>
+    ensures ok { OnOk result (lines.new.items ≡ with_children parent (put child) lines.old.items) }
+    ensures err { OnErr result (lines.new.items ≡ lines.old.items) }
+{
+    match line_of(parent, lines) {
+        Some(at) => put_child(alloc, &mut lines[at].children, child),
+        None => Ok(()),
+    }
+}
+
+/// Takes a child from a table.
+pub(crate) fn cut_line(alloc: Global, lines: &mut Vec<Line>, child: u32, parent: u32)
+    ensures { lines.new.items ≡ with_children parent (without child) lines.old.items }
+{
+    if let Some(at) = line_of(parent, lines) {
+        cut_child(alloc, &mut lines[at].children, child);
+    }
+}
+
+/// Whether a number is among others.
+pub(crate) fn is_among(number: u32, numbers: &[u32]) -> bool
+    ensures { result ≡ is_among number numbers.now }
+{
+    numbers.iter().any(|other| *other == number)
+}
