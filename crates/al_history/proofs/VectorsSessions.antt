@@ -96,11 +96,25 @@ rest_torn_down : IsAtRest (reverse torn_down)
 rest_torn_down r = at_rest (reverse stepped) 1 4 rest_stepped r
 
 driven_torn_down : Driven empty (reverse torn_down)
-driven_torn_down =
-    ((refl, zero_below _ refl), (idle (reverse stepped) rest_stepped,
-    ((refl, zero_below _ refl), (idle (reverse session_up) rest_session_up,
-    ((refl, zero_below _ refl), (idle (reverse set_up) rest_set_up,
-    ((refl, none_below _), (idle [] rest_at_first, tt))))))))
+driven_torn_down = (
+  (refl, zero_below _ refl),
+  (
+    idle (reverse stepped) rest_stepped,
+    (
+      (refl, zero_below _ refl),
+      (
+        idle (reverse session_up) rest_session_up,
+        (
+          (refl, zero_below _ refl),
+          (
+            idle (reverse set_up) rest_set_up,
+            ((refl, none_below _), (idle [] rest_at_first, tt)),
+          ),
+        ),
+      ),
+    ),
+  ),
+)
 
 both_closed : (s : ℕ) → s ≤ 1 → closed (reverse whole_file) s ≡ true
 both_closed zero le = refl
@@ -278,13 +292,16 @@ all_closed (suc (suc (suc s))) le = absurd (omega arith)
 
 -- that fails the setup: no step and no teardown block is given, and the open transaction is aborted by its session's close
 pub cancelled_runs : AreRuns held holding (run_of 1 (setups.Failed 1) cancelled_setup ∷ [])
-cancelled_runs = (record {
+cancelled_runs = (
+  record {
     permutation = refl;
     legal = cancelled_is_legal;
     whole = record { as_due = (refl, (refl, (refl, (refl, (refl, (refl, tt)))))); in_turn = driven_cancelled; all_done = refl; all_closed = all_closed };
     holding = hold_always holding (reverse cancelled_setup);
     setup = refl;
-  }, tt)
+  },
+  tt,
+)
 
 -- a teardown block is given all the same
 abbrev torn_after_failure : List Entry
