@@ -174,8 +174,8 @@ pub both-made : {E : Type 0} (r : Result Layout E) (slots new : List Slot) (cs o
 both-made r slots new cs others at change keep slot s view h is e f given =
     let name : slot.name ≡ name_at slots at = ap (λ (x : Slot). x.name) is ∙ name-there slots at slot h in
     told r (λ (x : Layout) (g : x ≡ layout new others).
-      g ∙ ap (λ (ss : List Slot). layout ss others) e ∙ ap (λ (os : List Constraint). layout (at_slot at change slots) os) (f ∙ ap (λ (n : List ℕ). keep n cs) name)
-      ∙ ap (λ (l : Layout). layout (at_slot at change l.slots) (keep (name_at l.slots at) l.constraints)) view) given
+    g ∙ ap (λ (ss : List Slot). layout ss others) e ∙ ap (λ (os : List Constraint). layout (at_slot at change slots) os) (f ∙ ap (λ (n : List ℕ). keep n cs) name)
+    ∙ ap (λ (l : Layout). layout (at_slot at change l.slots) (keep (name_at l.slots at) l.constraints)) view) given
 
 pub places-made : {E : Type 0} (r : Result (List ℕ) E) (slots : List Slot) (cs slice : List Constraint) (at : ℕ) (find : List ℕ → List Constraint → List ℕ) (slot : Slot) (s : Layout)
     → layout slots cs ≡ s → at < length slots → slot ≡ get_or slots at slot → slice ≡ cs
@@ -183,7 +183,7 @@ pub places-made : {E : Type 0} (r : Result (List ℕ) E) (slots : List Slot) (cs
 places-made r slots cs slice at find slot s view h is same given =
     let name : slot.name ≡ name_at slots at = ap (λ (x : Slot). x.name) is ∙ name-there slots at slot h in
     told r (λ (x : List ℕ) (g : x ≡ find slot.name slice).
-      g ∙ ap (find slot.name) same ∙ ap (λ (n : List ℕ). find n cs) name ∙ ap (λ (l : Layout). find (name_at l.slots at) l.constraints) view) given
+    g ∙ ap (find slot.name) same ∙ ap (λ (n : List ℕ). find n cs) name ∙ ap (λ (l : Layout). find (name_at l.slots at) l.constraints) view) given
 
 pub width-is : {E : Type 0} (r : Result (List Value) E) (slots slice : List Slot) (cs : List Constraint) (stored : List Value) (s : Layout) → layout slots cs ≡ s → slice ≡ slots
     → IfOk r (λ row. row ≡ row_by slice stored) → IfOk r (λ row. length row ≡ length (columns_of s.slots))

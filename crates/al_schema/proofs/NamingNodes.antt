@@ -10,7 +10,6 @@ use Rattle.al_expr.specs.declared.tree.Expr.TheFolds.{fold-roll-Expr}
 use Rattle.al_expr.specs.declared.tree.Expr.TheVariants as e
 use Rattle.al_schema.specs.Naming.{names_step, names, links_naming, items_naming}
 
-
 pub naming_literal : (name : List ℕ) (place : ℕ) (value : Value) →
     names (e.Literal place value) name ≡ names_step name (Expr-F.Literal place value)
 unfolding names

@@ -10,7 +10,6 @@ use Rattle.al_expr.specs.declared.tree.Expr.TheFolds.{fold-roll-Expr}
 use Rattle.al_expr.specs.declared.tree.Expr.TheVariants as e
 use Rattle.al_schema.specs.Naming.{renamed_step, renamed, links_renamed, items_renamed}
 
-
 pub renaming_literal : (from to : List ℕ) (place : ℕ) (value : Value) →
     renamed from to (e.Literal place value) ≡ renamed_step from to (Expr-F.Literal place value)
 unfolding renamed

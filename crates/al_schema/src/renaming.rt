@@ -16,7 +16,10 @@ pub fn renamed(alloc: Global, from: &Name, to: &Name, expr: &Expr) -> Result<Exp
     match expr {
         Expr::Literal(place, value) => Ok(Expr::Literal(*place, value.copied(alloc)?)),
         Expr::Date(place, text) => Ok(Expr::Date(*place, text.copied(alloc)?)),
-        Expr::Column(place, column) => Ok(Expr::Column(*place, name_after(alloc, from, to, column)?)),
+        Expr::Column(place, column) => Ok(Expr::Column(
+            *place,
+            name_after(alloc, from, to, column)?,
+        )),
         Expr::Chain(first, links) => Ok(Expr::Chain(
             boxed_renamed(alloc, from, to, first.get())?,
             links_renamed(alloc, from, to, links.as_slice())?,

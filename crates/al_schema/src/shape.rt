@@ -28,7 +28,6 @@ impl Model for Shape {
     ghost use Rattle.std.specs.Prelude.{◌≡◌, ◌<◌, ◌^◌, length};
     ghost use Rattle.al_schema.specs.Layout.{Layout};
     ghost use Rattle.al_schema.specs.Slots.{columns_of};
-
     ghost use Rattle.al_expr.specs.contracts.tree.Expr as e;
     ghost use Rattle.std.specs.Coded.{codes};
 
@@ -54,11 +53,7 @@ impl Shape {
     }
 
     // A shape of these slots and constraints.
-    fn of(
-        alloc: Global,
-        slots: Vec<Slot>,
-        constraints: Vec<Constraint>,
-    ) -> Result<Shape, NoMemory>
+    fn of(alloc: Global, slots: Vec<Slot>, constraints: Vec<Constraint>) -> Result<Shape, NoMemory>
         requires slots { length slots.items < 2 ^ 32 }
         requires constraints { length constraints.items < 2 ^ 32 }
         ensures { IfOk result (λ shape. shape ≡ record { slots = slots.items; constraints = constraints.items }) }
