@@ -1,0 +1,5 @@
+pub mod FateLaws
+pub mod KeptLaws
+pub mod Least
+pub mod MarkLaws
+pub mod Retained

@@ -1,0 +1,5 @@
+pub mod Fates
+pub mod Kept
+pub mod Least
+pub mod Marks
+pub mod Snapshots
