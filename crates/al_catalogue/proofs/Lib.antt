@@ -1,0 +1,4 @@
+mod EndLaws
+mod Places
+mod Kepts
+mod Vectors

@@ -1,0 +1,5 @@
+mod NamingNodes
+mod RenamingNodes
+mod Lists
+mod RowLaws
+mod Vectors
