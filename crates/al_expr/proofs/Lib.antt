@@ -1,9 +1,16 @@
 pub mod ChainLemmas
+mod Conversions
+mod DatesOfDays
 pub mod KindNodes
+mod Lawful
 pub mod NominalLemmas
 pub mod NominalNodes
+mod Openings
 pub mod OperatorLemmas
+mod OperatorSound
 pub mod PlaceNodes
+mod TypedValues
 pub mod UnplacedNodes
 pub mod ValueNodes
+mod Widening
 mod Vectors

@@ -8,3 +8,4 @@ pub mod Values
 pub mod Evaluation
 pub mod Places
 pub mod Unplaced
+pub mod Rows

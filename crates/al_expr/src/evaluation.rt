@@ -6,7 +6,7 @@ ghost use Rattle.al_expr.specs.Nominal.{nominal, met, as_typed, chain_gives, pre
 ghost use Rattle.al_expr.specs.Values.{read_in, operand_kind, related};
 ghost use Rattle.al_expr.specs.Evaluation.{value_of, known, sides_value, operator_value, chain_value, prefixed_value, casts_value, tests_value, side_value, below_high, in_value, coalesce_value, links_sides, items_sides};
 
-use crate::arithmetic::absolute;
+use crate::arithmetic::{absolute, literal_value};
 use crate::held::Held;
 use crate::kinds::{common, common_with, settled};
 use crate::nominal::{met, nominal, nominal_items, operator_gives, prefix_gives};
@@ -44,7 +44,10 @@ fn valued<'a>(
     ensures { GivesUnlessNoMemory result (known (nominal expr.now columns.now) (value_of expr.now columns.now row.now)) }
 {
     match expr {
-        Expr::Literal(_, value) => Ok((literal_kind(value), Held::lent(value))),
+        Expr::Literal(_, value) => {
+            let written = literal_value(value).map_err(Cant::Why)?;
+            Ok((literal_kind(value), written))
+        }
         Expr::Date(_, text) => {
             let day = read_text(alloc, text, Kind::Date)?;
             Ok((Typed::Known(Kind::Date), Held::own(day)))
@@ -64,6 +67,7 @@ fn valued<'a>(
         }
         Expr::IsNull(operand, tests) => {
             let (typed, value) = valued(alloc, operand.get(), columns, row)?;
+            let value = read_in(alloc, Kind::Text, typed, value)?;
             Ok((
                 typed_tests(typed, tests.as_slice()),
                 valued_tests(value, tests.as_slice()),
