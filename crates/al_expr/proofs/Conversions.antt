@@ -18,6 +18,7 @@ use Rattle.al_values.specs.Reading.{ranged, number_read, number_of, trimmed, boo
 use Rattle.al_expr.specs.declared.kinds.Typed.{Typed}
 use Rattle.al_expr.specs.declared.kinds.Typed.TheVariants as types
 use Rattle.al_expr.specs.Kinds.{is_castable, cast_kind}
+use Rattle.al_expr.specs.Roots.{is_stored}
 use Rattle.al_expr.specs.Rows.{is_of, is_written, is_typed, is_sound, is_fault_of_row}
 use Rattle.al_expr.specs.Values.{Outcome, text_bytes, bounded, converted}
 use Rattle.al_expr.proofs.DatesOfDays.{date_is_day}
@@ -183,6 +184,45 @@ cast_sound (types.Known from) to next value found is =
     let there = castable_of from to next (is_castable from to) refl found in
     (there.1, cast_known from to value there.0 is)
 cast_sound types.Untyped to next value found is = (cc, cast_written to value is)
+
+-- ---- assignments
+
+assign_whole : (from to : Kind) (number : ℤ) → is_stored from to ≡ true → is_of from (values.Int number) ≡ true → IsRead to (assigned (values.Int number) to)
+assign_whole from kinds.Smallint number there is = ranged_sound kinds.Smallint number
+assign_whole from kinds.Integer number there is = ranged_sound kinds.Integer number
+assign_whole from kinds.Bigint number there is = ranged_sound kinds.Bigint number
+assign_whole from kinds.Text number there is = refl
+assign_whole from (kinds.Varchar most) number there is = stored_sound most (text_of (values.Int number))
+assign_whole kinds.Smallint to number there is = absurd cc
+assign_whole kinds.Integer to number there is = absurd cc
+assign_whole kinds.Bigint to number there is = absurd cc
+assign_whole from to number there is = absurd cc
+
+assign_truth : (from to : Kind) (truth : Bool) → is_stored from to ≡ true → is_of from (values.Bool truth) ≡ true → IsRead to (assigned (values.Bool truth) to)
+assign_truth kinds.Boolean kinds.Boolean truth there is = refl
+assign_truth kinds.Boolean kinds.Text truth there is = refl
+assign_truth kinds.Boolean (kinds.Varchar most) truth there is = stored_sound most (text_of (values.Bool truth))
+assign_truth from to truth there is = absurd cc
+
+assign_day : (from to : Kind) (day : ℤ) → is_stored from to ≡ true → is_of from (values.Day day) ≡ true → IsRead to (assigned (values.Day day) to)
+assign_day kinds.Date kinds.Date day there is = is
+assign_day kinds.Date kinds.Text day there is = refl
+assign_day kinds.Date (kinds.Varchar most) day there is = stored_sound most (text_of (values.Day day))
+assign_day from to day there is = absurd cc
+
+assign_text : (from to : Kind) (text : List ℕ) → is_stored from to ≡ true → is_of from (values.Text text) ≡ true → IsRead to (assigned (values.Text text) to)
+assign_text kinds.Text kinds.Text text there is = refl
+assign_text kinds.Text (kinds.Varchar most) text there is = stored_sound most text
+assign_text (kinds.Varchar own) kinds.Text text there is = refl
+assign_text (kinds.Varchar own) (kinds.Varchar most) text there is = stored_sound most text
+assign_text from to text there is = absurd cc
+
+pub assigned_sound : (from to : Kind) (value : Value) → is_stored from to ≡ true → is_of from value ≡ true → is_read to (assigned value to) ≡ true
+assigned_sound from to values.Null there is = refl
+assigned_sound from to (values.Bool truth) there is = assign_truth from to truth there is
+assigned_sound from to (values.Int number) there is = assign_whole from to number there is
+assigned_sound from to (values.Text text) there is = assign_text from to text there is
+assigned_sound from to (values.Day day) there is = assign_day from to day there is
 
 -- ---- what is made of it: a text of too many bytes is a fault
 

@@ -9,6 +9,7 @@ mod Openings
 pub mod OperatorLemmas
 mod OperatorSound
 pub mod PlaceNodes
+pub mod RootSound
 mod TypedValues
 pub mod UnplacedNodes
 pub mod ValueNodes

@@ -9,3 +9,4 @@ pub mod Evaluation
 pub mod Places
 pub mod Unplaced
 pub mod Rows
+pub mod Roots

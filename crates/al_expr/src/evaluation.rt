@@ -13,29 +13,14 @@ use crate::nominal::{met, nominal, nominal_items, operator_gives, prefix_gives};
 use crate::texts::{cast_to, measured, operated, prefix_value, read_in, read_text};
 use crate::typing::{literal_kind, typed_tests};
 use crate::values::{both, decides, denied_if, either, is_null, operand_kind, related, tested};
-use crate::{Column, ColumnList, Comparison, EvalFault, Expr, Operator, Prefix, Typed};
-use al_values::{Cant, Kind, Name, Row, Value};
+use crate::{Column, Comparison, EvalFault, Expr, Operator, Prefix, Typed};
+use al_values::{Cant, Kind, Name, Value};
 use std::alloc::Global;
-
-/// The value of an expression on a row of these columns, or the first fault that evaluation meets: operands go from
-/// left to right, AND stops at false, OR at true, BETWEEN and IN as these do, and coalesce at the first value that isn't
-/// null. A string alone, which has no kind of its own, is given as it is written.
-pub fn eval(
-    alloc: Global,
-    expr: &Expr,
-    columns: &ColumnList,
-    row: &Row,
-) -> Result<Value, Cant<EvalFault>>
-    ensures { GivesUnlessNoMemory result (value_of expr.now columns.now row.now) }
-{
-    let (_, value) = valued(alloc, expr, columns.as_slice(), row.as_slice())?;
-    Ok(value.into_value(alloc)?)
-}
 
 /// A value with its kind.
 #[tactic(auto, using(crate::proofs::ValueNodes::value_nodes, crate::proofs::NominalNodes::nominal_nodes))]
 #[cycle(valuing)]
-fn valued<'a>(
+pub(crate) fn valued<'a>(
     alloc: Global,
     expr: &'a Expr,
     columns: &[Column],

@@ -10,6 +10,7 @@ mod held;
 mod kinds;
 mod nominal;
 mod place;
+mod roots;
 mod sameness;
 #[cfg(test)]
 mod samples;
@@ -22,10 +23,10 @@ mod unplaced;
 mod values;
 
 pub use column::{Column, ColumnList};
-pub use evaluation::eval;
 pub use fault::EvalFault;
-pub use kinds::{TypeFault, Typed};
+pub use kinds::{TypeFault, Typed, is_truth};
 pub use place::place_of;
+pub use roots::{eval, eval_as, is_assignable, row_fits, truth_of};
 pub use sameness::same;
 pub use tree::{Arithmetic, Comparison, Expr, Operator, Prefix};
 pub use typing::kind_of;
