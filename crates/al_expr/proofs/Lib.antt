@@ -2,6 +2,7 @@ pub mod ChainLemmas
 mod Conversions
 mod DatesOfDays
 pub mod KindNodes
+mod HoldingVectors
 mod Lawful
 pub mod NominalLemmas
 pub mod NominalNodes

@@ -10,3 +10,5 @@ pub mod Places
 pub mod Unplaced
 pub mod Rows
 pub mod Roots
+pub mod Tables
+pub mod Holding
