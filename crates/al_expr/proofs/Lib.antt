@@ -1,3 +1,5 @@
+pub mod BindNodes
+pub mod BoundNodes
 pub mod ChainLemmas
 mod Conversions
 mod DatesOfDays
@@ -14,5 +16,6 @@ pub mod RootSound
 mod TypedValues
 pub mod UnplacedNodes
 pub mod ValueNodes
+pub mod WrittenNodes
 mod Widening
 mod Vectors

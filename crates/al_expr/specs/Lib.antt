@@ -12,3 +12,5 @@ pub mod Rows
 pub mod Roots
 pub mod Tables
 pub mod Holding
+pub mod Bound
+pub mod Binding

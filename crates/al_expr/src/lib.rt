@@ -2,6 +2,7 @@
 #![tactic(auto)]
 
 mod arithmetic;
+mod bound;
 mod column;
 mod copying;
 mod evaluation;
@@ -22,6 +23,7 @@ mod typing;
 mod unplaced;
 mod values;
 
+pub use bound::{Bound, Joint};
 pub use column::{Column, ColumnList};
 pub use fault::EvalFault;
 pub use kinds::{TypeFault, Typed, is_truth};
