@@ -17,7 +17,7 @@ use Rattle.al_expr.specs.declared.tree.Expr.TheVariants as e
 use Rattle.al_expr.specs.Kinds.{common, common_with, settled}
 use Rattle.al_expr.specs.Nominal.{nominal, items_nominal, shared_by, met}
 use Rattle.al_expr.specs.Values.{converted, literal_value}
-use Rattle.al_expr.specs.Binding.{Operand, place_in, bound_place, bound_outcome, operand_bound, bind_step, bound_of, bound_as, links_joints, items_as}
+use Rattle.al_expr.specs.Binding.{Operand, place_from, bound_place, bound_outcome, operand_bound, bind_step, bound_of, bound_as, links_joints, items_as}
 
 abbrev pub between_bound : Kind → Bool → Expr → Expr → Expr → List Column → Bound
 between_bound kind negated value low high columns =
@@ -48,7 +48,7 @@ bind_date place text columns =
     ap (λ x. bound_of x columns) (sym (e.rolls-Date place text)) ∙ para-roll-Expr Bound (bind_step columns) (Expr-F.Date place text)
 
 pub bind_column : (place : ℕ) (name : List ℕ) (columns : List Column) →
-    bound_of (e.Column place name) columns ≡ bound_place (place_in columns name)
+    bound_of (e.Column place name) columns ≡ bound_place (place_from 0 columns name)
 unfolding bound_of
 bind_column place name columns =
     ap (λ x. bound_of x columns) (sym (e.rolls-Column place name)) ∙ para-roll-Expr Bound (bind_step columns) (Expr-F.Column place name)

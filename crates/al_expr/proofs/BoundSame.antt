@@ -1,6 +1,6 @@
 -- A bound expression has the value of the expression, on every row: node by node.
 use Rattle.std.proofs.Common.{◌≡◌, ℕ, suc, zero, ◌+◌, Bool, true, false, List, [], ◌∷◌, map, Option, Some, None, option_map, Result, Ok, Err, refl, sym, ap, ◌∙◌, subst, arith}
-use Rattle.std.specs.Prelude.{if◌then◌else◌}
+use Rattle.std.specs.Prelude.{if◌then◌else◌, IfOk}
 use Rattle.std.specs.List.{slice_get}
 use Rattle.al_values.specs.declared.kinds.Kind.{Kind}
 use Rattle.al_values.specs.declared.kinds.Kind.TheVariants as kinds
@@ -28,8 +28,9 @@ use Rattle.al_expr.specs.Kinds.{common, common_with, settled}
 use Rattle.al_expr.specs.Nominal.{nominal, items_nominal, operator_gives, shared_by, met}
 use Rattle.al_expr.specs.Values.{Outcome, converted, literal_value, read_in, decides, operated, operand_kind, related, either, denied_if, absolute, measured}
 use Rattle.al_expr.specs.Evaluation.{Side, value_of, links_sides, items_sides, sides_value, decided_value, right_value, operator_value, chain_value, prefixed_value, casts_value, tests_value, side_value, below_high, between_value, or_more, in_value, in_items, unless_null, coalesce_value}
-use Rattle.al_expr.specs.Bound.{or_null, placed, joint_value, joints_value, within_ends, among, first_of, bound_value, links_bound, items_bound}
-use Rattle.al_expr.specs.Binding.{place_in, bound_place, bound_outcome, written, read_untyped, read_bound, joint_of, bound_of, bound_as, links_joints, items_as}
+use Rattle.al_expr.specs.Bound.{IsBound, or_null, placed, joint_value, joints_value, within_ends, among, first_of, bound_value, links_bound, items_bound}
+use Rattle.al_expr.specs.Binding.{place_from, bound_place, bound_outcome, written, read_untyped, read_bound, joint_of, bound_of, bound_as, stored_bound, links_joints, items_as}
+use Rattle.al_expr.specs.Roots.{root_of, stored_as, stored_of}
 use Rattle.al_expr.proofs.WrittenNodes.{written_literal, written_date, written_column, written_chain, written_prefixed, written_casts, written_is_null, written_between, written_in, written_coalesce, written_abs, written_length}
 use Rattle.al_expr.proofs.BindNodes.{bind_literal, bind_date, bind_column, bind_chain, bind_prefixed, bind_casts, bind_is_null, bind_between, bind_in, bind_coalesce, bind_abs, bind_length}
 use Rattle.al_expr.proofs.BoundNodes.{bound_fixed, bound_faulty, bound_place as value_place, bound_chain, bound_prefixed, bound_casts, bound_is_null, bound_between, bound_in, bound_coalesce, bound_abs, bound_length, bound_read, bound_store}
@@ -79,6 +80,30 @@ column_by : (same : Bool) (row : List Value) (found : Option ℕ) (other : Value
     placed_or row (if same then Some 0 else option_map (λ place. place + 1) found) ≡ (if same then first_value row else other)
 column_by true row found other is = first_found row
 column_by false row found other is = next_found row found ∙ is
+
+-- the place, counted from the first column
+abbrev place_in : List Column → List ℕ → Option ℕ
+place_in [] name = None
+place_in (column ∷ columns) name =
+    if same_name column.name name then Some 0 else option_map (λ place. place + 1) (place_in columns name)
+
+counted_on : (at : ℕ) (found : Option ℕ) → option_map (λ place. place + (at + 1)) found ≡ option_map (λ place. place + at) (option_map (λ place. place + 1) found)
+counted_on at (Some place) = let is : place + (at + 1) ≡ place + 1 + at = omega arith in ap Some is
+counted_on at None = refl
+
+from_by : (same : Bool) (at : ℕ) (found later : Option ℕ) → later ≡ option_map (λ place. place + (at + 1)) found →
+    (if same then Some at else later) ≡ option_map (λ place. place + at) (if same then Some 0 else option_map (λ place. place + 1) found)
+from_by true at found later is = let none : at ≡ 0 + at = omega arith in ap Some none
+from_by false at found later is = is ∙ counted_on at found
+
+from_is : (at : ℕ) (columns : List Column) (name : List ℕ) → place_from at columns name ≡ option_map (λ place. place + at) (place_in columns name)
+from_is at [] name = refl
+from_is at (column ∷ columns) name =
+    from_by (same_name column.name name) at (place_in columns name) (place_from (at + 1) columns name) (from_is (at + 1) columns name)
+
+from_first : (found : Option ℕ) → option_map (λ place. place + 0) found ≡ found
+from_first (Some place) = let is : place + 0 ≡ place = omega arith in ap Some is
+from_first None = refl
 
 column_same : (columns : List Column) (row : List Value) (name : List ℕ) → placed_or row (place_in columns name) ≡ column_value columns row name
 column_same [] row name = refl
@@ -219,7 +244,8 @@ on_node columns row (Expr-F.Date place text) = subst (IsSame columns row) (sym (
     (bound_by columns row (e.Date place text) _ _ (bind_date place text columns) (outcome_same (converted (read_as text kinds.Date)) row) (value_date place text columns row))
 on_node columns row (Expr-F.Column place name) = subst (IsSame columns row) (sym (e.rolls-Column place name))
     (bound_by columns row (e.Column place name) _ _ (bind_column place name columns)
-    (place_value (place_in columns name) row ∙ ap Ok (column_same columns row name)) (value_column place name columns row))
+    (place_value (place_from 0 columns name) row
+    ∙ ap (λ found. Ok (placed_or row found)) (from_is 0 columns name ∙ from_first (place_in columns name)) ∙ ap Ok (column_same columns row name)) (value_column place name columns row))
 on_node columns row (Expr-F.Chain first links) = subst (IsSame columns row) (sym (e.rolls-Chain first.0 (links_of columns row links)))
     (bound_by columns row (e.Chain first.0 (links_of columns row links)) _ _ (bind_chain first.0 (links_of columns row links) columns)
     (bound_chain (bound_of first.0 columns) (links_joints columns (nominal first.0 columns) (links_of columns row links)) row
@@ -284,3 +310,24 @@ on_node columns row (Expr-F.Length place operand) = subst (IsSame columns row) (
 pub same : (columns : List Column) (row : List Value) (expr : Expr) → IsSame columns row expr
 same columns row =
     ind-Expr (IsSame columns row) (λ node held is. subst (λ n. IsSame columns row (roll-Expr n)) is (on_node columns row held))
+
+-- ---- whole expressions
+
+pub if_ok : {A E : Type 0} (result : Result A E) (P Q : A → Type 0) → ((a : A) → P a → Q a) → IfOk result P → IfOk result Q
+if_ok (Ok a) P Q more is = more a is
+if_ok (Err fault) P Q more is = is
+
+pub as_bound : (kind : Kind) (expr : Expr) (columns : List Column) (bound : Bound) → bound ≡ bound_as kind expr columns →
+    IsBound bound (λ row. side_value kind (root_of expr columns row))
+as_bound kind expr columns bound is row = ap (λ x. bound_value x row) is ∙ as_same kind expr columns row (same columns row expr)
+
+stored_by : (kind : Kind) (expr : Expr) (columns : List Column) (row : List Value) (typed : Typed) →
+    bound_value (stored_bound kind typed (written expr) (bound_of expr columns)) row ≡ (value_of expr columns row >>= (λ value. stored_as kind typed value))
+stored_by kind expr columns row (types.Known own) =
+    bound_store kind (bound_of expr columns) row ∙ ap (λ outcome. outcome >>= (λ value. converted (assigned value kind))) (same columns row expr)
+stored_by kind expr columns row types.Untyped = untyped_same kind expr columns row (written expr) (same columns row expr) refl
+
+pub as_stored : (kind : Kind) (expr : Expr) (columns : List Column) (bound : Bound) →
+    bound ≡ stored_bound kind (nominal expr columns) (written expr) (bound_of expr columns) →
+    IsBound bound (λ row. stored_of kind (root_of expr columns row))
+as_stored kind expr columns bound is row = ap (λ x. bound_value x row) is ∙ stored_by kind expr columns row (nominal expr columns)

@@ -1,6 +1,6 @@
 pub mod BindNodes
 pub mod BoundNodes
-mod BoundSame
+pub mod BoundSame
 pub mod ChainLemmas
 mod Conversions
 mod DatesOfDays

@@ -1,5 +1,5 @@
 -- How an expression is bound to columns: each name to its column's place, each node to what the kinds of its operands say.
-use Rattle.std.specs.Prelude.{ℕ, ◌+◌, if◌then◌else◌, List, [], ◌∷◌, map, Option, Some, None, option_map, Result, Ok, Err}
+use Rattle.std.specs.Prelude.{ℕ, ◌+◌, if◌then◌else◌, List, [], ◌∷◌, map, Option, Some, None, Result, Ok, Err}
 use Rattle.al_values.specs.declared.kinds.Kind.{Kind}
 use Rattle.al_values.specs.declared.kinds.Kind.TheVariants as kinds
 use Rattle.al_values.specs.declared.scalar.Value.{Value}
@@ -21,11 +21,10 @@ use Rattle.al_expr.specs.Kinds.{common, common_with, settled}
 use Rattle.al_expr.specs.Nominal.{nominal, items_nominal, operator_gives, shared_by, met}
 use Rattle.al_expr.specs.Values.{Outcome, converted, literal_value, operand_kind, read_in}
 
--- the place of the first column of the name
-abbrev pub place_in : List Column → List ℕ → Option ℕ
-place_in [] name = None
-place_in (column ∷ columns) name =
-    if same_name column.name name then Some 0 else option_map (λ place. place + 1) (place_in columns name)
+-- the place of the first column of the name, where the first of them all is counted so
+abbrev pub place_from : ℕ → List Column → List ℕ → Option ℕ
+place_from at [] name = None
+place_from at (column ∷ columns) name = if same_name column.name name then Some at else place_from (at + 1) columns name
 
 abbrev pub bound_place : Option ℕ → Bound
 bound_place (Some place) = b.Place place
@@ -45,8 +44,11 @@ unfoldable pub written : Expr → Option Value
 written expr = fold-Expr (Option Value) written_step expr
 
 -- an operand that is read as the kind: what has a kind of its own stays, a literal is read at once
+abbrev pub literal_read : Kind → Value → Outcome
+literal_read kind value = literal_value value >>= (λ literal. read_in kind types.Untyped literal)
+
 abbrev pub read_untyped : Kind → Option Value → Bound → Bound
-read_untyped kind (Some value) bound = bound_outcome (literal_value value >>= (λ literal. read_in kind types.Untyped literal))
+read_untyped kind (Some value) bound = bound_outcome (literal_read kind value)
 read_untyped kind None bound = b.Read kind bound
 
 abbrev pub read_bound : Kind → Typed → Option Value → Bound → Bound
@@ -75,7 +77,7 @@ joints_of columns left (link ∷ links) =
 abbrev pub bind_step : List Column → Expr-F Operand → Bound
 bind_step columns (Expr-F.Literal place value) = bound_outcome (literal_value value)
 bind_step columns (Expr-F.Date place text) = bound_outcome (converted (read_as text kinds.Date))
-bind_step columns (Expr-F.Column place name) = bound_place (place_in columns name)
+bind_step columns (Expr-F.Column place name) = bound_place (place_from 0 columns name)
 bind_step columns (Expr-F.Chain first links) = b.Chain first.1 (joints_of columns (nominal first.0 columns) links)
 bind_step columns (Expr-F.Prefixed operand prefixes) = b.Prefixed (nominal operand.0 columns) operand.1 prefixes
 bind_step columns (Expr-F.Casts operand casts) = b.Casts operand.1 casts

@@ -2,6 +2,7 @@
 use Rattle.std.specs.Prelude.{◌≡◌, ℕ, Bool, false, if◌then◌else◌, List, [], ◌∷◌, map, Option, Some, None, Result, Ok, Err}
 use Rattle.std.specs.List.{slice_get}
 use Rattle.al_values.specs.declared.kinds.Kind.{Kind}
+use Rattle.al_values.specs.declared.kinds.Tri.{Tri}
 use Rattle.al_values.specs.declared.scalar.Value.{Value}
 use Rattle.al_values.specs.declared.scalar.Value.TheVariants as values
 use Rattle.al_values.specs.Convert.{assigned}
@@ -9,8 +10,10 @@ use Rattle.al_expr.specs.declared.bound.Bound.{Bound}
 use Rattle.al_expr.specs.declared.bound.Bound.TheOpen.{Bound-F}
 use Rattle.al_expr.specs.declared.bound.Bound.TheFolds.{fold-Bound}
 use Rattle.al_expr.specs.declared.bound.Joint.{Joint}
+use Rattle.al_expr.specs.declared.fault.EvalFault.{EvalFault}
 use Rattle.al_expr.specs.declared.kinds.Typed.TheVariants as types
 use Rattle.al_expr.specs.declared.tree.Comparison.TheVariants as comparisons
+use Rattle.al_expr.specs.Roots.{as_truth}
 use Rattle.al_expr.specs.Then.{◌>>=◌}
 use Rattle.al_expr.specs.Values.{Outcome, converted, read_in, decides, operated, related, either, denied_if, absolute, measured}
 use Rattle.al_expr.specs.Evaluation.{prefixed_value, casts_value, tests_value, below_high, or_more, unless_null}
@@ -79,3 +82,7 @@ items_bound row items = map (λ item. bound_value item row) items
 -- it has this outcome on each row
 abbrev pub IsBound : Bound → (List Value → Outcome) → Type 0
 IsBound bound outcome = (row : List Value) → bound_value bound row ≡ outcome row
+
+-- a bound condition
+abbrev pub bound_truth : Bound → List Value → Result Tri EvalFault
+bound_truth bound row = bound_value bound row >>= (λ value. Ok (as_truth value))

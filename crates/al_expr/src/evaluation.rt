@@ -9,7 +9,7 @@ ghost use Rattle.al_expr.specs.Evaluation.{value_of, known, sides_value, operato
 use crate::arithmetic::{absolute, literal_value};
 use crate::held::Held;
 use crate::kinds::{common, common_with, settled};
-use crate::nominal::{met, nominal, nominal_items, operator_gives, prefix_gives};
+use crate::nominal::{casts_gives, met, nominal, nominal_items, operator_gives, prefix_gives, prefixed_gives};
 use crate::texts::{cast_to, measured, operated, prefix_value, read_in, read_text};
 use crate::typing::{literal_kind, typed_tests};
 use crate::values::{both, decides, denied_if, either, is_null, operand_kind, related, tested};
@@ -271,7 +271,7 @@ fn valued_coalesce<'a>(
 }
 
 /// The kind as which the operands of BETWEEN are read.
-fn between_kind(value: &Expr, low: &Expr, high: &Expr, columns: &[Column]) -> Kind
+pub(crate) fn between_kind(value: &Expr, low: &Expr, high: &Expr, columns: &[Column]) -> Kind
     ensures { result ≡ met (common_with (common (nominal value.now columns.now) (nominal low.now columns.now)) (nominal high.now columns.now)) }
 {
     let low_shared = common(nominal(value, columns), nominal(low, columns));
@@ -322,13 +322,26 @@ fn valued_prefixes<'a>(
 ) -> Result<(Typed, Held<'a>), Cant<EvalFault>>
     ensures { GivesUnlessNoMemory result (known (prefixed_gives inner_type prefixes.now) (prefixed_value inner_type inner.entry prefixes.now)) }
 {
+    let value = prefixed(alloc, inner_type, inner, prefixes)?;
+    Ok((prefixed_gives(inner_type, prefixes), value))
+}
+
+/// The value of NOTs and signs in a row.
+pub(crate) fn prefixed<'a>(
+    alloc: Global,
+    inner_type: Typed,
+    inner: Held<'a>,
+    prefixes: &[(u32, Prefix)],
+) -> Result<Held<'a>, Cant<EvalFault>>
+    ensures { GivesUnlessNoMemory result (prefixed_value inner_type inner.entry prefixes.now) }
+{
     let mut typed = inner_type;
     let mut value = inner;
     for (_, prefix) in prefixes {
         value = prefix_value(alloc, *prefix, typed, value)?;
         typed = prefix_gives(*prefix, typed);
     }
-    Ok((typed, value))
+    Ok(value)
 }
 
 /// Casts in a row.
@@ -340,18 +353,28 @@ fn valued_casts<'a>(
 ) -> Result<(Typed, Held<'a>), Cant<EvalFault>>
     ensures { GivesUnlessNoMemory result (known (casts_gives inner_type casts.now) (casts_value inner.entry casts.now)) }
 {
-    let mut typed = inner_type;
+    let value = cast_all(alloc, inner, casts)?;
+    Ok((casts_gives(inner_type, casts), value))
+}
+
+/// The value of casts in a row.
+pub(crate) fn cast_all<'a>(
+    alloc: Global,
+    inner: Held<'a>,
+    casts: &[(u32, Kind)],
+) -> Result<Held<'a>, Cant<EvalFault>>
+    ensures { GivesUnlessNoMemory result (casts_value inner.entry casts.now) }
+{
     let mut value = inner;
     for (_, to) in casts {
         let cast = cast_to(alloc, value.get(), *to)?;
         value = Held::own(cast);
-        typed = Typed::Known(*to);
     }
-    Ok((typed, value))
+    Ok(value)
 }
 
 /// IS NULL and IS NOT NULL in a row.
-fn valued_tests<'a>(inner: Held<'a>, tests: &[(u32, bool)]) -> Held<'a>
+pub(crate) fn valued_tests<'a>(inner: Held<'a>, tests: &[(u32, bool)]) -> Held<'a>
     ensures { result ≡ tests_value inner.entry tests.now }
 {
     let mut value = inner;

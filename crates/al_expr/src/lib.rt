@@ -2,7 +2,9 @@
 #![tactic(auto)]
 
 mod arithmetic;
+mod binding;
 mod bound;
+mod bound_rows;
 mod column;
 mod copying;
 mod evaluation;
@@ -23,7 +25,9 @@ mod typing;
 mod unplaced;
 mod values;
 
+pub use binding::{bind_condition, bind_output, bind_stored};
 pub use bound::{Bound, Joint};
+pub use bound_rows::{eval_bound, truth_of_bound};
 pub use column::{Column, ColumnList};
 pub use fault::EvalFault;
 pub use kinds::{TypeFault, Typed, is_truth};

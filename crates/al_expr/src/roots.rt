@@ -122,7 +122,7 @@ fn stored_as(
 }
 
 /// A boolean as a truth value; what is none is neither true nor false.
-fn as_truth(value: &Value) -> Tri
+pub(crate) fn as_truth(value: &Value) -> Tri
     ensures { result ≡ as_truth value.now }
 {
     match value {
