@@ -1,6 +1,7 @@
 pub mod BindNodes
 pub mod BoundNodes
 pub mod BoundSame
+pub mod BoundSound
 pub mod ChainLemmas
 mod Conversions
 mod DatesOfDays

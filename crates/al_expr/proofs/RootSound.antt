@@ -15,7 +15,7 @@ use Rattle.al_expr.specs.declared.kinds.Typed.TheVariants as types
 use Rattle.al_expr.specs.declared.fault.EvalFault.{EvalFault}
 use Rattle.al_expr.specs.declared.tree.Expr.{Expr}
 use Rattle.al_expr.specs.Then.{◌>>=◌}
-use Rattle.al_expr.specs.Kinds.{settled}
+use Rattle.al_expr.specs.Kinds.{is_truth, settled}
 use Rattle.al_expr.specs.Typing.{kind_is}
 use Rattle.al_expr.specs.Nominal.{nominal}
 use Rattle.al_expr.specs.Rows.{is_of, is_typed, is_sound, is_fault_of_row, row_fits}
@@ -46,14 +46,18 @@ named : (expr : Expr) (columns : List Column) (row : List Value) (typed : Typed)
 named expr columns row typed is fit = (lawful columns row fit expr typed is).0
 
 -- an output
+pub output_sound : (expr : Expr) (columns : List Column) (row : List Value) (typed : Typed) → kind_is expr columns ≡ Ok typed → row_fits columns row ≡ true →
+    is_sound (types.Known (settled typed)) (output_of (root_of expr columns row)) ≡ true
+output_sound expr columns row typed is fit =
+    subst (λ k. is_sound (types.Known k) (output_of (root_of expr columns row)) ≡ true)
+    (ap (read_kind kinds.Text) (named expr columns row typed is fit) ∙ output_kind typed)
+    (side_sound kinds.Text (root_of expr columns row) (root_good expr columns row typed is fit))
+
 pub output_is_sound : (expr : Expr) (columns : List Column) (row : List Value) (result : Result Value (Cant EvalFault)) →
     GivesUnlessNoMemory result (output_of (root_of expr columns row)) → (typed : Typed) → kind_is expr columns ≡ Ok typed → row_fits columns row ≡ true →
     IsSound (settled typed) result
 output_is_sound expr columns row result gives typed is fit =
-    told (settled typed) result (output_of (root_of expr columns row)) gives
-    (subst (λ k. is_sound (types.Known k) (output_of (root_of expr columns row)) ≡ true)
-    (ap (read_kind kinds.Text) (named expr columns row typed is fit) ∙ output_kind typed)
-    (side_sound kinds.Text (root_of expr columns row) (root_good expr columns row typed is fit)))
+    told (settled typed) result (output_of (root_of expr columns row)) gives (output_sound expr columns row typed is fit)
 
 -- a stored value
 stored_value : (kind : Kind) (typed : Typed) (value : Value) → is_assignable typed kind ≡ true → is_typed typed value ≡ true →
@@ -61,17 +65,33 @@ stored_value : (kind : Kind) (typed : Typed) (value : Value) → is_assignable t
 stored_value kind (types.Known from) value there is = converted_sound kind (assigned value kind) (assigned_sound from kind value there is)
 stored_value kind types.Untyped value there is = read_in_sound kind types.Untyped value is
 
+pub stored_sound : (expr : Expr) (columns : List Column) (row : List Value) (kind : Kind) (typed : Typed) → kind_is expr columns ≡ Ok typed →
+    is_assignable typed kind ≡ true → row_fits columns row ≡ true → is_sound (types.Known kind) (stored_of kind (root_of expr columns row)) ≡ true
+stored_sound expr columns row kind typed is there fit =
+    then_sound (nominal expr columns) kind (value_of expr columns row) (λ value. stored_as kind (nominal expr columns) value)
+    (root_good expr columns row typed is fit)
+    (λ value value_is. stored_value kind (nominal expr columns) value
+    (subst (λ t. is_assignable t kind ≡ true) (sym (named expr columns row typed is fit)) there) value_is)
+
 pub stored_is_sound : (expr : Expr) (columns : List Column) (row : List Value) (kind : Kind) (result : Result Value (Cant EvalFault)) →
     GivesUnlessNoMemory result (stored_of kind (root_of expr columns row)) → (typed : Typed) → kind_is expr columns ≡ Ok typed →
     is_assignable typed kind ≡ true → row_fits columns row ≡ true → IsSound kind result
 stored_is_sound expr columns row kind result gives typed is there fit =
-    told kind result (stored_of kind (root_of expr columns row)) gives
-    (then_sound (nominal expr columns) kind (value_of expr columns row) (λ value. stored_as kind (nominal expr columns) value)
-    (root_good expr columns row typed is fit)
-    (λ value value_is. stored_value kind (nominal expr columns) value
-    (subst (λ t. is_assignable t kind ≡ true) (sym (named expr columns row typed is fit)) there) value_is))
+    told kind result (stored_of kind (root_of expr columns row)) gives (stored_sound expr columns row kind typed is there fit)
 
 -- a condition
+condition_kind : (typed : Typed) → is_truth typed ≡ true → read_kind kinds.Boolean typed ≡ kinds.Boolean
+condition_kind (types.Known kinds.Boolean) is = refl
+condition_kind types.Untyped is = refl
+condition_kind typed is = absurd cc
+
+pub condition_sound : (expr : Expr) (columns : List Column) (row : List Value) (typed : Typed) → kind_is expr columns ≡ Ok typed → is_truth typed ≡ true →
+    row_fits columns row ≡ true → is_sound (types.Known kinds.Boolean) (side_value kinds.Boolean (root_of expr columns row)) ≡ true
+condition_sound expr columns row typed is truth fit =
+    subst (λ k. is_sound (types.Known k) (side_value kinds.Boolean (root_of expr columns row)) ≡ true)
+    (ap (read_kind kinds.Boolean) (named expr columns row typed is fit) ∙ condition_kind typed truth)
+    (side_sound kinds.Boolean (root_of expr columns row) (root_good expr columns row typed is fit))
+
 truth_fault : (kind : Kind) (outcome : Outcome) (result : Result Tri (Cant EvalFault)) → is_sound (types.Known kind) outcome ≡ true →
     GivesUnlessNoMemory result (outcome >>= (λ value. Ok (as_truth value))) → IsTruth result
 truth_fault kind (Ok value) (Ok truth) sound gives = tt

@@ -1,5 +1,5 @@
 -- The value of a bound expression on a row: names are places of the row, and what kinds say is worked out before.
-use Rattle.std.specs.Prelude.{◌≡◌, ℕ, Bool, false, if◌then◌else◌, List, [], ◌∷◌, map, Option, Some, None, Result, Ok, Err}
+use Rattle.std.specs.Prelude.{◌≡◌, ℕ, Bool, true, false, if◌then◌else◌, List, [], ◌∷◌, map, Option, Some, None, Result, Ok, Err}
 use Rattle.std.specs.List.{slice_get}
 use Rattle.al_values.specs.declared.kinds.Kind.{Kind}
 use Rattle.al_values.specs.declared.kinds.Tri.{Tri}
@@ -10,10 +10,12 @@ use Rattle.al_expr.specs.declared.bound.Bound.{Bound}
 use Rattle.al_expr.specs.declared.bound.Bound.TheOpen.{Bound-F}
 use Rattle.al_expr.specs.declared.bound.Bound.TheFolds.{fold-Bound}
 use Rattle.al_expr.specs.declared.bound.Joint.{Joint}
+use Rattle.al_expr.specs.declared.column.Column.{Column}
 use Rattle.al_expr.specs.declared.fault.EvalFault.{EvalFault}
 use Rattle.al_expr.specs.declared.kinds.Typed.TheVariants as types
 use Rattle.al_expr.specs.declared.tree.Comparison.TheVariants as comparisons
 use Rattle.al_expr.specs.Roots.{as_truth}
+use Rattle.al_expr.specs.Rows.{is_sound, row_fits}
 use Rattle.al_expr.specs.Then.{◌>>=◌}
 use Rattle.al_expr.specs.Values.{Outcome, converted, read_in, decides, operated, related, either, denied_if, absolute, measured}
 use Rattle.al_expr.specs.Evaluation.{prefixed_value, casts_value, tests_value, below_high, or_more, unless_null}
@@ -86,3 +88,7 @@ IsBound bound outcome = (row : List Value) → bound_value bound row ≡ outcome
 -- a bound condition
 abbrev pub bound_truth : Bound → List Value → Result Tri EvalFault
 bound_truth bound row = bound_value bound row >>= (λ value. Ok (as_truth value))
+
+-- on each row that fits the columns it has a value of the kind, or the row is at fault
+abbrev pub IsSoundOn : List Column → Kind → Bound → Type 0
+IsSoundOn columns kind bound = (row : List Value) → row_fits columns row ≡ true → is_sound (types.Known kind) (bound_value bound row) ≡ true

@@ -1,11 +1,13 @@
-ghost use Rattle.std.specs.Prelude.{◌≡◌, IfOk};
+ghost use Rattle.std.specs.Prelude.{◌≡◌, true, Ok, IfOk};
 ghost use Rattle.std.specs.Option.{option_copied};
 ghost use Rattle.al_values.specs.Reading.{read_as};
-ghost use Rattle.al_expr.specs.Bound.{IsBound};
+ghost use Rattle.al_expr.specs.Bound.{IsBound, IsSoundOn};
 ghost use Rattle.al_expr.specs.Binding.{place_from, bound_place, bound_outcome, written, literal_read, read_untyped, read_bound, joint_of, bound_of, bound_as, links_joints, items_as, stored_bound};
 ghost use Rattle.al_expr.specs.Evaluation.{side_value};
+ghost use Rattle.al_expr.specs.Kinds.{is_truth, settled};
 ghost use Rattle.al_expr.specs.Nominal.{nominal, chain_gives, links_nominal};
-ghost use Rattle.al_expr.specs.Roots.{root_of, output_of, stored_of};
+ghost use Rattle.al_expr.specs.Roots.{root_of, output_of, stored_of, is_assignable};
+ghost use Rattle.al_expr.specs.Typing.{kind_is};
 ghost use Rattle.al_expr.specs.Values.{converted, literal_value, read_in};
 
 use crate::arithmetic::literal_value;
@@ -25,9 +27,11 @@ use sqlite_items::{Boxed, Items};
 use std::alloc::Global;
 
 /// An expression bound to columns, once for many rows, as an output of a query: on each row it has the value that `eval`
-/// gives.
+/// gives. Where the expression has a kind, that is Null or a value of it on each row that fits the columns, or the row's
+/// fault.
 pub fn bind_output(alloc: Global, expr: &Expr, columns: &ColumnList) -> Result<Bound, NoMemory>
-    ensures { IfOk result (λ bound. IsBound bound (λ row. output_of (root_of expr.now columns.now row))) }
+    ensures value { IfOk result (λ bound. IsBound bound (λ row. output_of (root_of expr.now columns.now row))) }
+    ensures kind { IfOk result (λ bound. (typed : Typed) → kind_is expr.now columns.now ≡ Ok typed → IsSoundOn columns.now (settled typed) bound) }
 {
     bind_as(alloc, Kind::Text, expr, columns.as_slice())
 }
@@ -35,7 +39,8 @@ pub fn bind_output(alloc: Global, expr: &Expr, columns: &ColumnList) -> Result<B
 /// An expression bound to columns, once for many rows, as a condition: on each row `truth_of_bound` gives what `truth_of`
 /// does.
 pub fn bind_condition(alloc: Global, expr: &Expr, columns: &ColumnList) -> Result<Bound, NoMemory>
-    ensures { IfOk result (λ bound. IsBound bound (λ row. side_value Kind.Boolean (root_of expr.now columns.now row))) }
+    ensures value { IfOk result (λ bound. IsBound bound (λ row. side_value Kind.Boolean (root_of expr.now columns.now row))) }
+    ensures kind { IfOk result (λ bound. (typed : Typed) → kind_is expr.now columns.now ≡ Ok typed → is_truth typed ≡ true → IsSoundOn columns.now Kind.Boolean bound) }
 {
     bind_as(alloc, Kind::Boolean, expr, columns.as_slice())
 }
@@ -48,7 +53,8 @@ pub fn bind_stored(
     columns: &ColumnList,
     kind: Kind,
 ) -> Result<Bound, NoMemory>
-    ensures { IfOk result (λ bound. IsBound bound (λ row. stored_of kind (root_of expr.now columns.now row))) }
+    ensures value { IfOk result (λ bound. IsBound bound (λ row. stored_of kind (root_of expr.now columns.now row))) }
+    ensures kind { IfOk result (λ bound. (typed : Typed) → kind_is expr.now columns.now ≡ Ok typed → is_assignable typed kind ≡ true → IsSoundOn columns.now kind bound) }
 {
     bind_store(alloc, kind, expr, columns.as_slice())
 }
