@@ -59,12 +59,7 @@ pub fn bind_stored(
     bind_store(alloc, kind, expr, columns.as_slice())
 }
 
-fn bind_store(
-    alloc: Global,
-    kind: Kind,
-    expr: &Expr,
-    columns: &[Column],
-) -> Result<Bound, NoMemory>
+fn bind_store(alloc: Global, kind: Kind, expr: &Expr, columns: &[Column]) -> Result<Bound, NoMemory>
     ensures { IfOk result (λ bound. bound ≡ stored_bound kind (nominal expr.now columns.now) (written expr.now) (bound_of expr.now columns.now)) }
 {
     let (typed, bound) = bind(alloc, expr, columns)?;
@@ -97,7 +92,10 @@ fn bind(alloc: Global, expr: &Expr, columns: &[Column]) -> Result<(Typed, Bound)
             let (typed, operand) = bind(alloc, operand.get(), columns)?;
             let row = Items::from_slice(alloc, prefixes.as_slice())?;
             let outer = prefixed_gives(typed, prefixes.as_slice());
-            Ok((outer, Bound::Prefixed(typed, Boxed::new(alloc, operand)?, row)))
+            Ok((
+                outer,
+                Bound::Prefixed(typed, Boxed::new(alloc, operand)?, row),
+            ))
         }
         Expr::Casts(operand, casts) => {
             let (typed, operand) = bind(alloc, operand.get(), columns)?;
@@ -127,7 +125,10 @@ fn bind(alloc: Global, expr: &Expr, columns: &[Column]) -> Result<(Typed, Bound)
             let kind = met(nominal_items(Some(first), items.as_slice(), columns));
             let value = boxed_as(alloc, kind, value.get(), columns)?;
             let items = bind_items(alloc, kind, items.as_slice(), columns)?;
-            Ok((Typed::Known(Kind::Boolean), Bound::In(*negated, value, items)))
+            Ok((
+                Typed::Known(Kind::Boolean),
+                Bound::In(*negated, value, items),
+            ))
         }
         Expr::Coalesce(_, items) => {
             let kind = met(nominal_items(Some(Typed::Untyped), items.as_slice(), columns));
@@ -136,7 +137,10 @@ fn bind(alloc: Global, expr: &Expr, columns: &[Column]) -> Result<(Typed, Bound)
         }
         Expr::Abs(_, operand) => {
             let (typed, operand) = bind(alloc, operand.get(), columns)?;
-            Ok((typed, Bound::Abs(settled(typed), Boxed::new(alloc, operand)?)))
+            Ok((
+                typed,
+                Bound::Abs(settled(typed), Boxed::new(alloc, operand)?),
+            ))
         }
         Expr::Length(_, operand) => {
             let operand = boxed_as(alloc, Kind::Text, operand.get(), columns)?;
@@ -147,12 +151,7 @@ fn bind(alloc: Global, expr: &Expr, columns: &[Column]) -> Result<(Typed, Bound)
 
 /// An operand's tree, read as the kind.
 #[cycle(binding)]
-fn bind_as(
-    alloc: Global,
-    kind: Kind,
-    expr: &Expr,
-    columns: &[Column],
-) -> Result<Bound, NoMemory>
+fn bind_as(alloc: Global, kind: Kind, expr: &Expr, columns: &[Column]) -> Result<Bound, NoMemory>
     ensures { IfOk result (λ bound. bound ≡ bound_as kind expr.now columns.now) }
 {
     let (typed, bound) = bind(alloc, expr, columns)?;

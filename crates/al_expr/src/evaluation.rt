@@ -9,7 +9,9 @@ ghost use Rattle.al_expr.specs.Evaluation.{value_of, known, sides_value, operato
 use crate::arithmetic::{absolute, literal_value};
 use crate::held::Held;
 use crate::kinds::{common, common_with, settled};
-use crate::nominal::{casts_gives, met, nominal, nominal_items, operator_gives, prefix_gives, prefixed_gives};
+use crate::nominal::{
+    casts_gives, met, nominal, nominal_items, operator_gives, prefix_gives, prefixed_gives,
+};
 use crate::texts::{cast_to, measured, operated, prefix_value, read_in, read_text};
 use crate::typing::{literal_kind, typed_tests};
 use crate::values::{both, decides, denied_if, either, is_null, operand_kind, related, tested};

@@ -13,6 +13,8 @@ mod held;
 mod kinds;
 mod nominal;
 mod place;
+#[cfg(test)]
+mod root_tests;
 mod roots;
 mod sameness;
 #[cfg(test)]

@@ -192,7 +192,8 @@ fn is_of(kind: Kind, value: &Value) -> bool
         (_, Value::Null) => true,
         (_, Value::Int(number)) => kind.fits(*number),
         (Kind::Boolean, Value::Bool(_)) | (Kind::Text, Value::Text(_)) => true,
-        (Kind::Varchar(most), Value::Text(text)) => count_characters(text.as_str()) <= most as usize,
+        (Kind::Varchar(most), Value::Text(text)) => count_characters(text.as_str())
+            <= most as usize,
         (Kind::Date, Value::Day(day)) => -719_162 <= *day && *day <= 2_932_896,
         _ => false,
     }

@@ -63,7 +63,11 @@ pub(crate) fn cast_to(alloc: Global, value: &Value, kind: Kind) -> Result<Value,
 }
 
 /// What is stored of a value in a column of the kind.
-pub(crate) fn assigned_to(alloc: Global, value: &Value, kind: Kind) -> Result<Value, Cant<EvalFault>>
+pub(crate) fn assigned_to(
+    alloc: Global,
+    value: &Value,
+    kind: Kind,
+) -> Result<Value, Cant<EvalFault>>
     ensures { GivesUnlessNoMemory result (table.converted (assigned value.now kind)) }
 {
     match assign(alloc, value, kind) {
