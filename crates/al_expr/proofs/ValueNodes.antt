@@ -15,7 +15,7 @@ use Rattle.al_expr.specs.declared.kinds.Typed.TheVariants as types
 use Rattle.al_expr.specs.Then.{◌>>=◌}
 use Rattle.al_expr.specs.Columns.{column_value}
 use Rattle.al_expr.specs.Kinds.{common, common_with, settled}
-use Rattle.al_expr.specs.Values.{Outcome, converted, denied_if, absolute, measured}
+use Rattle.al_expr.specs.Values.{Outcome, converted, literal_value, denied_if, absolute, measured}
 use Rattle.al_expr.specs.Nominal.{shared_by, met, nominal, items_nominal}
 use Rattle.al_expr.specs.Evaluation.{Side, chain_value, prefixed_value, casts_value, tests_value, between_value, side_value, in_items, coalesce_value, sides_of, link_of, kinds_of, value_step, value_of, links_sides, items_sides}
 
@@ -50,7 +50,7 @@ abbrev pub in_all : Kind → Bool → Side → List Side → Outcome
 in_all kind negated value sides = in_items kind value sides >>= (λ truth. Ok (denied_if negated truth))
 
 pub value_literal : (place : ℕ) (value : Value) (columns : List Column) (row : List Value) →
-    value_of (e.Literal place value) columns row ≡ Ok value
+    value_of (e.Literal place value) columns row ≡ literal_value value
 unfolding value_of
 value_literal place value columns row =
     ap (λ x. value_of x columns row) (sym (e.rolls-Literal place value)) ∙ para-roll-Expr Outcome (value_step columns row) (Expr-F.Literal place value)
@@ -91,7 +91,7 @@ value_casts operand casts columns row =
 
 pub value_is_null : (operand : Expr) (tests : List (ℕ × Bool)) (columns : List Column) (row : List Value) →
     value_of (e.IsNull operand tests) columns row ≡
-    (value_of operand columns row >>= (λ value. Ok (tests_value value tests)))
+    (side_value kinds.Text (nominal operand columns, value_of operand columns row) >>= (λ value. Ok (tests_value value tests)))
 unfolding value_of
 value_is_null operand tests columns row =
     ap (λ x. value_of x columns row) (sym (e.rolls-IsNull operand tests)) ∙ para-roll-Expr Outcome (value_step columns row) (Expr-F.IsNull operand tests)

@@ -22,7 +22,7 @@ use Rattle.al_expr.specs.Then.{◌>>=◌}
 use Rattle.al_expr.specs.Columns.{column_value}
 use Rattle.al_expr.specs.Kinds.{common, common_with, settled}
 use Rattle.al_expr.specs.Nominal.{operator_gives, prefix_gives, shared_by, met, nominal}
-use Rattle.al_expr.specs.Values.{Outcome, converted, read_in, both, either, denied_if, is_null, decides, related, absolute, measured, tested, operated, operand_kind, prefix_value}
+use Rattle.al_expr.specs.Values.{Outcome, converted, literal_value, read_in, both, either, denied_if, is_null, decides, related, absolute, measured, tested, operated, operand_kind, prefix_value}
 
 -- an operand: its kind, and its outcome
 abbrev pub Side : Type 0
@@ -120,7 +120,7 @@ kinds_of sides = map (λ side. side.0) sides
 
 -- one node, with each operand and its outcome
 abbrev pub value_step : List Column → List Value → Expr-F (Expr × Outcome) → Outcome
-value_step columns row (Expr-F.Literal place value) = Ok value
+value_step columns row (Expr-F.Literal place value) = literal_value value
 value_step columns row (Expr-F.Date place text) = converted (read_as text kinds.Date)
 value_step columns row (Expr-F.Column place name) = Ok (column_value columns row name)
 value_step columns row (Expr-F.Chain first links) =
@@ -128,7 +128,8 @@ value_step columns row (Expr-F.Chain first links) =
 value_step columns row (Expr-F.Prefixed operand prefixes) =
     operand.1 >>= (λ value. prefixed_value (nominal operand.0 columns) value prefixes)
 value_step columns row (Expr-F.Casts operand casts) = operand.1 >>= (λ value. casts_value value casts)
-value_step columns row (Expr-F.IsNull operand tests) = operand.1 >>= (λ value. Ok (tests_value value tests))
+value_step columns row (Expr-F.IsNull operand tests) =
+    side_value kinds.Text (side_of columns operand) >>= (λ value. Ok (tests_value value tests))
 value_step columns row (Expr-F.Between place negated value low high) =
     let kind = met (common_with (common (nominal value.0 columns) (nominal low.0 columns)) (nominal high.0 columns)) in
     between_value kind (side_of columns value) (side_of columns low) (side_of columns high)

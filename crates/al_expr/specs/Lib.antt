@@ -8,3 +8,9 @@ pub mod Values
 pub mod Evaluation
 pub mod Places
 pub mod Unplaced
+pub mod Rows
+pub mod Roots
+pub mod Tables
+pub mod Holding
+pub mod Bound
+pub mod Binding

@@ -143,6 +143,12 @@ calculated arithmetics.Remainder kind (values.Int a) (values.Int b) =
     if int_eq b (pos 0) then Err faults.DivZero else in_kind kind (int_rem a b)
 calculated operator kind a b = Ok values.Null
 
+-- a literal: a number of 64 bits, a day of the years 1 to 9999, and all else as it is
+abbrev pub literal_value : Value → Outcome
+literal_value (values.Int number) = in_kind kinds.Bigint number
+literal_value (values.Day day) = in_calendar day
+literal_value value = Ok value
+
 -- a sign, and abs
 abbrev pub minus : Kind → Value → Outcome
 minus kind (values.Int number) = in_kind kind (neg_ℤ number)

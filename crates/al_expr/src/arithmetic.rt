@@ -3,6 +3,7 @@ ghost use Rattle.std.specs.Int.RustNames.{int_div, int_rem};
 ghost use Rattle.al_values.specs.Kinds.{fits};
 ghost use Rattle.al_expr.specs.Values as table;
 
+use crate::held::Held;
 use crate::{Arithmetic, EvalFault};
 use al_values::{Kind, Value};
 
@@ -131,6 +132,17 @@ pub(crate) fn calculated(
         (Arithmetic::Divide, Value::Int(a), Value::Int(b)) => quotient(kind, *a, *b),
         (Arithmetic::Remainder, Value::Int(a), Value::Int(b)) => remainder(kind, *a, *b),
         _ => Ok(Value::Null),
+    }
+}
+
+/// A literal, with its number or its day in range.
+pub(crate) fn literal_value<'a>(value: &'a Value) -> Result<Held<'a>, EvalFault>
+    ensures { result ≡ table.literal_value value.now }
+{
+    match value {
+        Value::Int(number) => Ok(Held::own(in_kind(Kind::Bigint, *number)?)),
+        Value::Day(day) => Ok(Held::own(in_calendar(i64::from(*day))?)),
+        Value::Null | Value::Bool(_) | Value::Text(_) => Ok(Held::lent(value)),
     }
 }
 

@@ -6,36 +6,23 @@ ghost use Rattle.al_expr.specs.Nominal.{nominal, met, as_typed, chain_gives, pre
 ghost use Rattle.al_expr.specs.Values.{read_in, operand_kind, related};
 ghost use Rattle.al_expr.specs.Evaluation.{value_of, known, sides_value, operator_value, chain_value, prefixed_value, casts_value, tests_value, side_value, below_high, in_value, coalesce_value, links_sides, items_sides};
 
-use crate::arithmetic::absolute;
+use crate::arithmetic::{absolute, literal_value};
 use crate::held::Held;
 use crate::kinds::{common, common_with, settled};
-use crate::nominal::{met, nominal, nominal_items, operator_gives, prefix_gives};
+use crate::nominal::{
+    casts_gives, met, nominal, nominal_items, operator_gives, prefix_gives, prefixed_gives,
+};
 use crate::texts::{cast_to, measured, operated, prefix_value, read_in, read_text};
 use crate::typing::{literal_kind, typed_tests};
 use crate::values::{both, decides, denied_if, either, is_null, operand_kind, related, tested};
-use crate::{Column, ColumnList, Comparison, EvalFault, Expr, Operator, Prefix, Typed};
-use al_values::{Cant, Kind, Name, Row, Value};
+use crate::{Column, Comparison, EvalFault, Expr, Operator, Prefix, Typed};
+use al_values::{Cant, Kind, Name, Value};
 use std::alloc::Global;
-
-/// The value of an expression on a row of these columns, or the first fault that evaluation meets: operands go from
-/// left to right, AND stops at false, OR at true, BETWEEN and IN as these do, and coalesce at the first value that isn't
-/// null. A string alone, which has no kind of its own, is given as it is written.
-pub fn eval(
-    alloc: Global,
-    expr: &Expr,
-    columns: &ColumnList,
-    row: &Row,
-) -> Result<Value, Cant<EvalFault>>
-    ensures { GivesUnlessNoMemory result (value_of expr.now columns.now row.now) }
-{
-    let (_, value) = valued(alloc, expr, columns.as_slice(), row.as_slice())?;
-    Ok(value.into_value(alloc)?)
-}
 
 /// A value with its kind.
 #[tactic(auto, using(crate::proofs::ValueNodes::value_nodes, crate::proofs::NominalNodes::nominal_nodes))]
 #[cycle(valuing)]
-fn valued<'a>(
+pub(crate) fn valued<'a>(
     alloc: Global,
     expr: &'a Expr,
     columns: &[Column],
@@ -44,7 +31,10 @@ fn valued<'a>(
     ensures { GivesUnlessNoMemory result (known (nominal expr.now columns.now) (value_of expr.now columns.now row.now)) }
 {
     match expr {
-        Expr::Literal(_, value) => Ok((literal_kind(value), Held::lent(value))),
+        Expr::Literal(_, value) => {
+            let written = literal_value(value).map_err(Cant::Why)?;
+            Ok((literal_kind(value), written))
+        }
         Expr::Date(_, text) => {
             let day = read_text(alloc, text, Kind::Date)?;
             Ok((Typed::Known(Kind::Date), Held::own(day)))
@@ -64,6 +54,7 @@ fn valued<'a>(
         }
         Expr::IsNull(operand, tests) => {
             let (typed, value) = valued(alloc, operand.get(), columns, row)?;
+            let value = read_in(alloc, Kind::Text, typed, value)?;
             Ok((
                 typed_tests(typed, tests.as_slice()),
                 valued_tests(value, tests.as_slice()),
@@ -282,7 +273,7 @@ fn valued_coalesce<'a>(
 }
 
 /// The kind as which the operands of BETWEEN are read.
-fn between_kind(value: &Expr, low: &Expr, high: &Expr, columns: &[Column]) -> Kind
+pub(crate) fn between_kind(value: &Expr, low: &Expr, high: &Expr, columns: &[Column]) -> Kind
     ensures { result ≡ met (common_with (common (nominal value.now columns.now) (nominal low.now columns.now)) (nominal high.now columns.now)) }
 {
     let low_shared = common(nominal(value, columns), nominal(low, columns));
@@ -333,13 +324,26 @@ fn valued_prefixes<'a>(
 ) -> Result<(Typed, Held<'a>), Cant<EvalFault>>
     ensures { GivesUnlessNoMemory result (known (prefixed_gives inner_type prefixes.now) (prefixed_value inner_type inner.entry prefixes.now)) }
 {
+    let value = prefixed(alloc, inner_type, inner, prefixes)?;
+    Ok((prefixed_gives(inner_type, prefixes), value))
+}
+
+/// The value of NOTs and signs in a row.
+pub(crate) fn prefixed<'a>(
+    alloc: Global,
+    inner_type: Typed,
+    inner: Held<'a>,
+    prefixes: &[(u32, Prefix)],
+) -> Result<Held<'a>, Cant<EvalFault>>
+    ensures { GivesUnlessNoMemory result (prefixed_value inner_type inner.entry prefixes.now) }
+{
     let mut typed = inner_type;
     let mut value = inner;
     for (_, prefix) in prefixes {
         value = prefix_value(alloc, *prefix, typed, value)?;
         typed = prefix_gives(*prefix, typed);
     }
-    Ok((typed, value))
+    Ok(value)
 }
 
 /// Casts in a row.
@@ -351,18 +355,28 @@ fn valued_casts<'a>(
 ) -> Result<(Typed, Held<'a>), Cant<EvalFault>>
     ensures { GivesUnlessNoMemory result (known (casts_gives inner_type casts.now) (casts_value inner.entry casts.now)) }
 {
-    let mut typed = inner_type;
+    let value = cast_all(alloc, inner, casts)?;
+    Ok((casts_gives(inner_type, casts), value))
+}
+
+/// The value of casts in a row.
+pub(crate) fn cast_all<'a>(
+    alloc: Global,
+    inner: Held<'a>,
+    casts: &[(u32, Kind)],
+) -> Result<Held<'a>, Cant<EvalFault>>
+    ensures { GivesUnlessNoMemory result (casts_value inner.entry casts.now) }
+{
     let mut value = inner;
     for (_, to) in casts {
         let cast = cast_to(alloc, value.get(), *to)?;
         value = Held::own(cast);
-        typed = Typed::Known(*to);
     }
-    Ok((typed, value))
+    Ok(value)
 }
 
 /// IS NULL and IS NOT NULL in a row.
-fn valued_tests<'a>(inner: Held<'a>, tests: &[(u32, bool)]) -> Held<'a>
+pub(crate) fn valued_tests<'a>(inner: Held<'a>, tests: &[(u32, bool)]) -> Held<'a>
     ensures { result ≡ tests_value inner.entry tests.now }
 {
     let mut value = inner;

@@ -28,8 +28,8 @@ pub enum TypeFault {
     },
 }
 
-/// Whether it may stand where a boolean is wanted.
-pub(crate) fn is_truth(typed: Typed) -> bool
+/// Whether an expression of this kind may stand where a boolean is wanted: beside AND, OR and NOT, in WHERE and in CHECK.
+pub fn is_truth(typed: Typed) -> bool
     ensures { result ≡ table.is_truth typed }
 {
     match typed {

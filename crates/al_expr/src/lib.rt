@@ -2,6 +2,9 @@
 #![tactic(auto)]
 
 mod arithmetic;
+mod binding;
+mod bound;
+mod bound_rows;
 mod column;
 mod copying;
 mod evaluation;
@@ -10,6 +13,9 @@ mod held;
 mod kinds;
 mod nominal;
 mod place;
+#[cfg(test)]
+mod root_tests;
+mod roots;
 mod sameness;
 #[cfg(test)]
 mod samples;
@@ -21,11 +27,14 @@ mod typing;
 mod unplaced;
 mod values;
 
+pub use binding::{bind_condition, bind_output, bind_stored};
+pub use bound::{Bound, Joint};
+pub use bound_rows::{eval_bound, truth_of_bound};
 pub use column::{Column, ColumnList};
-pub use evaluation::eval;
 pub use fault::EvalFault;
-pub use kinds::{TypeFault, Typed};
+pub use kinds::{TypeFault, Typed, is_truth};
 pub use place::place_of;
+pub use roots::{eval, eval_as, is_assignable, row_fits, truth_of};
 pub use sameness::same;
 pub use tree::{Arithmetic, Comparison, Expr, Operator, Prefix};
 pub use typing::kind_of;

@@ -115,7 +115,7 @@ pub(crate) fn prefix_gives(prefix: Prefix, typed: Typed) -> Typed
 }
 
 /// What NOTs and signs in a row give.
-fn prefixed_gives(inner: Typed, prefixes: &[(u32, Prefix)]) -> Typed
+pub(crate) fn prefixed_gives(inner: Typed, prefixes: &[(u32, Prefix)]) -> Typed
     ensures { result ≡ table.prefixed_gives inner prefixes.now }
 {
     let mut typed = inner;
@@ -126,7 +126,7 @@ fn prefixed_gives(inner: Typed, prefixes: &[(u32, Prefix)]) -> Typed
 }
 
 /// What casts in a row give.
-fn casts_gives(inner: Typed, casts: &[(u32, Kind)]) -> Typed
+pub(crate) fn casts_gives(inner: Typed, casts: &[(u32, Kind)]) -> Typed
     ensures { result ≡ table.casts_gives inner casts.now }
 {
     let mut typed = inner;

@@ -1,10 +1,11 @@
 //! Small expressions for tests, and what they give.
 
 use crate::{
-    Arithmetic, Column, ColumnList, Comparison, Expr, Operator, Prefix, TypeFault, Typed, eval,
-    kind_of, place_of, same, without_places,
+    Arithmetic, Column, ColumnList, Comparison, EvalFault, Expr, Operator, Prefix, TypeFault,
+    Typed, bind_condition, bind_output, bind_stored, eval, eval_as, eval_bound, kind_of, place_of,
+    row_fits, same, truth_of, truth_of_bound, without_places,
 };
-use al_values::{Cant, Copied, Kind, Name, NoMemory, Row, Txt, Value, print};
+use al_values::{Cant, Copied, Kind, Name, NoMemory, Row, Tri, Txt, Value, print};
 use sqlite_items::{Boxed, Items};
 use std::alloc::Global;
 
@@ -146,16 +147,6 @@ pub(crate) fn length(alloc: Global, operand: Made) -> Made {
     Ok(Expr::Length(16, boxed(alloc, operand)?))
 }
 
-/// `NOT (NOT (.. TRUE AND TRUE) AND TRUE)`, with so many levels.
-pub(crate) fn nested(alloc: Global, levels: u32) -> Made {
-    let mut made = truth(Some(true));
-    for _ in 0..levels {
-        let operand = binary(alloc, made, 1, Operator::And, truth(Some(true)));
-        made = prefixed(alloc, 1, Prefix::Not, operand);
-    }
-    made
-}
-
 /// `0 + 1 + 1 ..`, with so many operators.
 pub(crate) fn long_sum(alloc: Global, operators: u32) -> Made {
     let first = boxed(alloc, number(0))?;
@@ -216,14 +207,140 @@ fn row(alloc: Global, a: Value, b: Value) -> Result<Row, NoMemory> {
     Ok(row)
 }
 
-/// What evaluation gives, as a text: a value as it is printed, `null`, or the fault.
-fn told(alloc: Global, expr: &Expr, columns: &ColumnList, row: &Row) -> Result<Txt, NoMemory> {
-    match eval(alloc, expr, columns, row) {
+type Evaluated = Result<Value, Cant<EvalFault>>;
+
+/// A value as it is printed, `null`, or the fault.
+fn text_of(alloc: Global, evaluated: Evaluated) -> Result<Txt, NoMemory> {
+    match evaluated {
         Ok(Value::Null) => Txt::new(alloc, "null"),
         Ok(value) => print(alloc, &value),
         Err(Cant::Why(fault)) => Ok(Txt::from_string(format!(in alloc; "{fault:?}")?)),
         Err(Cant::NoMemory) => Err(NoMemory),
     }
+}
+
+/// What both ways of evaluation give.
+fn alike(alloc: Global, alone: Evaluated, bound: Evaluated) -> Result<Txt, NoMemory> {
+    let alone = text_of(alloc, alone)?;
+    let bound = text_of(alloc, bound)?;
+    if alone.as_str() == bound.as_str() {
+        Ok(alone)
+    } else {
+        Txt::new(alloc, "they differ")
+    }
+}
+
+/// What evaluation gives, alone and bound to the columns.
+fn told(alloc: Global, expr: &Expr, columns: &ColumnList, row: &Row) -> Result<Txt, NoMemory> {
+    let bound = bind_output(alloc, expr, columns)?;
+    alike(
+        alloc,
+        eval(alloc, expr, columns, row),
+        eval_bound(alloc, &bound, row),
+    )
+}
+
+fn told_stored(alloc: Global, made: Made, kind: Kind) -> Result<Txt, NoMemory> {
+    let expr = made?;
+    let columns = ColumnList::new(alloc);
+    let row = Row::new(alloc);
+    let bound = bind_stored(alloc, &expr, &columns, kind)?;
+    alike(
+        alloc,
+        eval_as(alloc, &expr, &columns, &row, kind),
+        eval_bound(alloc, &bound, &row),
+    )
+}
+
+/// Whether this is what is stored of an expression without columns in a column of the kind.
+pub(crate) fn stores(alloc: Global, made: Made, kind: Kind, wanted: &str) -> bool {
+    match told_stored(alloc, made, kind) {
+        Ok(text) => text.as_str() == wanted,
+        Err(_) => false,
+    }
+}
+
+fn told_truth(
+    alloc: Global,
+    made: Made,
+) -> Result<(Result<Tri, Cant<EvalFault>>, Result<Tri, Cant<EvalFault>>), NoMemory> {
+    let expr = made?;
+    let columns = ColumnList::new(alloc);
+    let row = Row::new(alloc);
+    let bound = bind_condition(alloc, &expr, &columns)?;
+    Ok((
+        truth_of(alloc, &expr, &columns, &row),
+        truth_of_bound(alloc, &bound, &row),
+    ))
+}
+
+/// Whether a condition without columns is this.
+pub(crate) fn is_told(alloc: Global, made: Made, wanted: Result<Tri, EvalFault>) -> bool {
+    let wanted = wanted.map_err(Cant::Why);
+    match told_truth(alloc, made) {
+        Ok((alone, bound)) => alone == wanted && bound == wanted,
+        Err(_) => false,
+    }
+}
+
+fn is_fit(alloc: Global, kinds: (Kind, Kind), values: (Made, Made)) -> Result<bool, NoMemory> {
+    let columns = pair(alloc, kinds.0, kinds.1)?;
+    match (values.0?, values.1?) {
+        (Expr::Literal(_, a), Expr::Literal(_, b)) => {
+            let row = row(alloc, a, b)?;
+            Ok(row_fits(&columns, &row) && !row_fits(&columns, &Row::new(alloc)))
+        }
+        _ => Ok(false),
+    }
+}
+
+/// Whether a row of two literals fits columns of these kinds.
+pub(crate) fn fits(alloc: Global, kinds: (Kind, Kind), a: Made, b: Made) -> bool {
+    is_fit(alloc, kinds, (a, b)) == Ok(true)
+}
+
+/// A text of so many bytes.
+pub(crate) fn long_text(alloc: Global, bytes: u32) -> Made {
+    let mut text = String::new(alloc);
+    for _ in 0..bytes {
+        text.push_str("x")?;
+    }
+    Ok(Expr::Literal(4, Value::Text(Txt::from_string(text))))
+}
+
+/// `FALSE OR TRUE AND TRUE = 1 BETWEEN 1 AND 1 + 1 * (..)::integer IS NULL`, with so many levels.
+pub(crate) fn deep(alloc: Global, levels: u32) -> Made {
+    let mut made = truth(Some(true));
+    for _ in 0..levels {
+        let product = calculated(
+            alloc,
+            number(1),
+            Arithmetic::Multiply,
+            cast(alloc, made, &[Kind::Integer]),
+        );
+        let sum = calculated(alloc, number(1), Arithmetic::Add, product);
+        let range = between(alloc, false, number(1), number(1), sum);
+        let equal = compared(alloc, truth(Some(true)), Comparison::Equal, range);
+        let test = tested(alloc, equal, &[false]);
+        let both = binary(alloc, truth(Some(true)), 1, Operator::And, test);
+        made = binary(alloc, truth(Some(false)), 1, Operator::Or, both);
+    }
+    made
+}
+
+/// Whether deep and long expressions are copied, compared, typed and evaluated, and let go.
+pub(crate) fn hold_deep_and_long(alloc: Global) -> bool {
+    let truth = Ok(Typed::Known(Kind::Boolean));
+    let whole = Ok(Typed::Known(Kind::Integer));
+    are_same(copy(alloc, deep(alloc, 200)), deep(alloc, 200))
+        && has_kind(alloc, unplaced(alloc, deep(alloc, 200)), truth)
+        && gives(alloc, deep(alloc, 200), "f")
+        && are_same(
+            copy(alloc, long_sum(alloc, 30_000)),
+            long_sum(alloc, 30_000),
+        )
+        && has_kind(alloc, unplaced(alloc, long_sum(alloc, 30_000)), whole)
+        && gives(alloc, long_sum(alloc, 30_000), "30000")
 }
 
 fn told_alone(alloc: Global, made: Made) -> Result<Txt, NoMemory> {

@@ -1,8 +1,8 @@
 use crate::samples::{
-    abs, are_same, between, binary, calculated, cast, coalesce, compared, copy, date, faulty,
+    abs, are_same, between, binary, calculated, cast, coalesce, compared, date, faulty,
     faulty_truth, gives, gives_on, gives_on_texts, has_kind, has_kind_on, integer, is_wrong_at,
-    length, long_sum, name, nested, null, number, prefixed, stands_at, string, tested, truth,
-    unplaced, within,
+    length, long_sum, name, null, number, prefixed, stands_at, string, tested, truth, unplaced,
+    within,
 };
 use crate::{Arithmetic, Comparison, Operator, Prefix, TypeFault, Typed};
 use al_values::Kind;
@@ -688,26 +688,8 @@ fn first_fault_in_reading_order(rt: HostRuntime) {
 }
 
 #[test]
-fn deep_and_long(rt: HostRuntime) {
-    let alloc = rt.alloc();
-    let truth = Ok(Typed::Known(Kind::Boolean));
-    assert!(rt; has_kind(alloc, copy(alloc, nested(alloc, 200)), truth));
-    assert!(rt; gives(alloc, copy(alloc, nested(alloc, 200)), "t"));
-    let whole = Ok(Typed::Known(Kind::Integer));
-    assert!(rt; has_kind(alloc, copy(alloc, long_sum(alloc, 30_000)), whole));
-    assert!(rt; gives(alloc, copy(alloc, long_sum(alloc, 30_000)), "30000"));
-}
-
-#[test]
 fn copies_and_places(rt: HostRuntime) {
     let alloc = rt.alloc();
-    assert!(rt; are_same(copy(alloc, nested(alloc, 200)), nested(alloc, 200)));
-    assert!(rt;
-        are_same(
-            copy(alloc, long_sum(alloc, 30_000)),
-            long_sum(alloc, 30_000)
-        )
-    );
     assert!(rt; !are_same(long_sum(alloc, 2), long_sum(alloc, 3)));
     assert!(rt; !are_same(number(1), number(2)));
     assert!(rt; !are_same(number(1), null()));

@@ -1,6 +1,6 @@
 ghost use Rattle.std.specs.Prelude.{◌≡◌, ◌++◌, IfOk, MatchResult};
 ghost use Rattle.al_values.specs.Characters.{characters};
-ghost use Rattle.al_values.specs.Convert.{casted};
+ghost use Rattle.al_values.specs.Convert.{assigned, casted};
 ghost use Rattle.al_values.specs.Gives.{GivesUnlessNoMemory};
 ghost use Rattle.al_values.specs.Reading.{read_as};
 ghost use Rattle.al_expr.specs.Values as table;
@@ -10,7 +10,7 @@ use crate::held::Held;
 use crate::kinds::settled;
 use crate::values::{both, denied, either, related};
 use crate::{EvalFault, Operator, Prefix, Typed};
-use al_values::{Cant, Copied, Kind, NoMemory, Txt, Value, cast, read};
+use al_values::{Cant, Copied, Kind, NoMemory, Txt, Value, assign, cast, read};
 use std::alloc::Global;
 
 /// How many bytes a text may have.
@@ -56,6 +56,21 @@ pub(crate) fn cast_to(alloc: Global, value: &Value, kind: Kind) -> Result<Value,
     ensures { GivesUnlessNoMemory result (table.converted (casted value.now kind)) }
 {
     match cast(alloc, value, kind) {
+        Ok(value) => bounded(value).map_err(Cant::Why),
+        Err(Cant::Why(fault)) => Err(Cant::Why(EvalFault::Cast(fault))),
+        Err(Cant::NoMemory) => Err(Cant::NoMemory),
+    }
+}
+
+/// What is stored of a value in a column of the kind.
+pub(crate) fn assigned_to(
+    alloc: Global,
+    value: &Value,
+    kind: Kind,
+) -> Result<Value, Cant<EvalFault>>
+    ensures { GivesUnlessNoMemory result (table.converted (assigned value.now kind)) }
+{
+    match assign(alloc, value, kind) {
         Ok(value) => bounded(value).map_err(Cant::Why),
         Err(Cant::Why(fault)) => Err(Cant::Why(EvalFault::Cast(fault))),
         Err(Cant::NoMemory) => Err(Cant::NoMemory),
