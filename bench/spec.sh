@@ -2,7 +2,7 @@
 # Times the reader of spec files on files that it makes: 64 KB, 512 KB and 4 MB. 'steps' are 60 sessions with as many steps as
 # fit and a permutation; 'names' are up to 1,000 permutations of 990 steps each. Prints how many sessions, blocks and
 # permutations a file has, the milliseconds of a read, MB/s, and how many times as long a read is as that of the size before,
-# whose file has an eighth of the bytes.
+# whose file has an eighth of the bytes. Last comes the whole program on the 4 MB of 'steps', of which it runs three.
 # Usage: bench/spec.sh [RUNS]   (how often each is timed; 7 where not given)
 set -eu
 cd "$(dirname "$0")/.."
@@ -55,3 +55,8 @@ names() {
 
 printf '%-8s %10s %8s %10s %8s %8s\n' kind bytes parts ms MB/s growth
 for kind in steps names; do sizes spec "$kind" 32; done
+whole=crates/al_live/out/al_live
+[ -x "$whole" ] || { echo "no $whole: run bin/alterlive once" >&2; exit 1; }
+steps 4194304 >"$input"
+program=$whole
+printf '%-8s %10d %8s %10s\n' run "$(wc -c <"$input")" - "$(least run | awk '{ printf "%.3f", $1 / 1000000 }')"
