@@ -47,7 +47,8 @@ fn sessions(rt: HostRuntime) -> Result<(), Fail> {
     let Status::SpecFault(fault) = status_of(alloc, &more)? else {
         return Err(Fail::from("a fault"));
     };
-    let at = (more.len() - "s step x62 { BEGIN }\npermutation x0\n".len()) as u32;
+    // The last name: behind ten lines of 28 bytes, 52 of 29, and the 8 of its word.
+    let at = 1_796;
     let what = SpecLimit::Sessions;
     assert_eq!(rt; fault, SpecFault::Limit { at, what });
     Ok(())
