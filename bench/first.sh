@@ -1,5 +1,5 @@
 #!/usr/bin/env bash
-# Times the proved program on spec files of the first form that it makes: about 1, 8 and 64 KB, many steps of INSERT and
+# Times the proved program on spec files of one permutation that it makes: about 1, 8 and 64 KB, many steps of INSERT and
 # SELECT, of which the permutation names up to 90. Prints a table of sizes, medians, and growth from line to line. The first
 # line is an empty input, which is refused: the time of starting the program.
 # Usage: bench/first.sh [RUNS]   (how often each is timed; 15 where not given)
