@@ -30,7 +30,8 @@ use Rattle.al_engine.specs.declared.sessions.Session.{Session}
 use Rattle.al_engine.specs.LockTie.{asks, IsTied, WantsSo, OthersWant, locked_by, is_granted}
 use Rattle.al_engine.specs.Sessions.{xact_in, woken, IsMirror, light_of}
 use Rattle.al_engine.specs.Stored.{TellsCommitted}
-use Rattle.al_engine.specs.Kept.{Parts, IsSound, IsAmid, IsKept}
+use Rattle.al_engine.specs.Listed.{KeepsControls}
+use Rattle.al_engine.specs.Kept.{listed_in, Parts, IsSound, IsAmid, IsKept}
 use Rattle.al_engine.proofs.Grants.{HaveCome, commit_frees, abort_frees, settled_then, weight_granted}
 use Rattle.al_engine.proofs.LockLists.{LeavesSo, leaves_so}
 use Rattle.al_engine.proofs.Mirrors.{others_on, others_granted, knows_others}
@@ -87,7 +88,7 @@ amid_begins terms p s kept = record {
 
 -- ---- the session makes such an entry
 
-module _ (terms : Terms) (p q : Parts) (s used : ℕ) (t : Session) (e : Entry) (amid : IsAmid terms p s used) (there : slice_get p.sessions s ≡ Some t) (still : IsStill e) (by : IsBy (past_of p.journal) s e) (comes : MayCome terms (past_of p.journal) e) (noted : past_of q.journal ≡ e ∷ past_of p.journal) (room : q.journal.room + 1 ≡ p.journal.room) (sessions_same : q.sessions ≡ p.sessions) (tables_same : q.tables ≡ p.tables) (locks_same : q.locks ≡ p.locks) (committed_same : q.committed ≡ p.committed) (weight_same : q.weight ≡ p.weight) where
+module _ (terms : Terms) (p q : Parts) (s used : ℕ) (t : Session) (e : Entry) (amid : IsAmid terms p s used) (there : slice_get p.sessions s ≡ Some t) (still : IsStill e) (by : IsBy (past_of p.journal) s e) (comes : MayCome terms (past_of p.journal) e) (noted : past_of q.journal ≡ e ∷ past_of p.journal) (room : q.journal.room + 1 ≡ p.journal.room) (sessions_same : q.sessions ≡ p.sessions) (tables_same : q.tables ≡ p.tables) (locks_same : q.locks ≡ p.locks) (committed_same : q.committed ≡ p.committed) (weight_same : q.weight ≡ p.weight) (controls_kept : KeepsControls (listed_in p) (listed_in q)) where
   abbrev old : Past
   old = past_of p.journal
 
@@ -95,6 +96,7 @@ module _ (terms : Terms) (p q : Parts) (s used : ℕ) (t : Session) (e : Entry) 
   noted_sound = record {
     legal = rw noted (comes, amid.sound.legal);
     count = rw sessions_same amid.sound.count;
+    controlled = controls_kept terms amid.sound.controlled;
     beyond = λ r le.
         let far : length p.sessions ≤ r = rw sessions_same at le in
         let same : doing (e ∷ old) r ≡ doing old r = others_stay terms old s r amid.sound.legal (beyond_others p.sessions s r t there far) e by in
@@ -125,7 +127,7 @@ woken_from sessions grants r u P each got = by_record (slice_get sessions r) ref
   by_record None is got = absurd cc
   by_record (Some t) is got = let same : calmed (is_granted r grants) t ≡ u = cc in rw (← same) (each t is)
 
-module _ (terms : Terms) (p q : Parts) (s used : ℕ) (t : Session) (e : Entry) (amid : IsAmid terms p s used) (there : slice_get p.sessions s ≡ Some t) (by : IsBy (past_of p.journal) s e) (stored_same : store terms (e ∷ past_of p.journal) ≡ store terms (past_of p.journal)) (light_so : weight (e ∷ past_of p.journal) ≡ weight (past_of p.journal)) (wants : OthersWant s (past_of p.journal) → WantsSo (e ∷ past_of p.journal)) (come : HaveCome terms (xact_in p.sessions) q.locks.locks.granted (e ∷ past_of p.journal) q.locks.locks) (tells : TellsCommitted (e ∷ past_of p.journal) q.committed) (marks : length q.committed ≡ length p.committed) (few : length q.locks.locks.granted + length q.locks.locks.waiting ≤ length p.locks.locks.waiting) (noted : past_of q.journal ≡ locked_by (xact_in p.sessions) q.locks.locks.granted (e ∷ past_of p.journal)) (room : q.journal.room + length q.locks.locks.granted + 1 ≡ p.journal.room) (woke : q.sessions ≡ woken q.locks.locks.granted p.sessions) (tables_same : q.tables ≡ p.tables) (count_same : q.locks.sessions ≡ p.locks.sessions) (settled : IsSettled q.locks.locks) (weight_same : q.weight ≡ p.weight) where
+module _ (terms : Terms) (p q : Parts) (s used : ℕ) (t : Session) (e : Entry) (amid : IsAmid terms p s used) (there : slice_get p.sessions s ≡ Some t) (by : IsBy (past_of p.journal) s e) (stored_same : store terms (e ∷ past_of p.journal) ≡ store terms (past_of p.journal)) (light_so : weight (e ∷ past_of p.journal) ≡ weight (past_of p.journal)) (wants : OthersWant s (past_of p.journal) → WantsSo (e ∷ past_of p.journal)) (come : HaveCome terms (xact_in p.sessions) q.locks.locks.granted (e ∷ past_of p.journal) q.locks.locks) (tells : TellsCommitted (e ∷ past_of p.journal) q.committed) (marks : length q.committed ≡ length p.committed) (few : length q.locks.locks.granted + length q.locks.locks.waiting ≤ length p.locks.locks.waiting) (noted : past_of q.journal ≡ locked_by (xact_in p.sessions) q.locks.locks.granted (e ∷ past_of p.journal)) (room : q.journal.room + length q.locks.locks.granted + 1 ≡ p.journal.room) (woke : q.sessions ≡ woken q.locks.locks.granted p.sessions) (tables_same : q.tables ≡ p.tables) (count_same : q.locks.sessions ≡ p.locks.sessions) (settled : IsSettled q.locks.locks) (weight_same : q.weight ≡ p.weight) (controls_kept : KeepsControls (listed_in p) (listed_in q)) where
   abbrev before : Past
   before = past_of p.journal
 
@@ -139,6 +141,7 @@ module _ (terms : Terms) (p q : Parts) (s used : ℕ) (t : Session) (e : Entry) 
   ended_sound = record {
     legal = rw noted come.legal;
     count = rw woke (woken_length q.locks.locks.granted p.sessions ∙ amid.sound.count);
+    controlled = controls_kept terms amid.sound.controlled;
     beyond = λ r le.
         let far : length p.sessions ≤ r = rw (woke, woken_length q.locks.locks.granted p.sessions) at le in
         let same : doing (e ∷ before) r ≡ doing before r = others_stay terms before s r amid.sound.legal (beyond_others p.sessions s r t there far) e by in
@@ -181,21 +184,21 @@ module _ (terms : Terms) (p q : Parts) (s used x : ℕ) (t : Session) (amid : Is
   abort_comes comes = abort_frees terms was x (xact_in p.sessions) p.locks.locks q.locks.locks (comes, amid.sound.legal) amid.sound.tied (rw by.session hands)
       (knows_others terms (Abort x ∷ was) p.sessions s (comes, amid.sound.legal) amid.sound.count abort_none (others_on terms was p.sessions s (Abort x) amid.sound.legal by amid.others))
 
-  module _ (room : q.journal.room + length q.locks.locks.granted + 1 ≡ p.journal.room) (woke : q.sessions ≡ woken q.locks.locks.granted p.sessions) (tables_same : q.tables ≡ p.tables) (count_same : q.locks.sessions ≡ p.locks.sessions) (settled : IsSettled q.locks.locks) (weight_same : q.weight ≡ p.weight) where
+  module _ (room : q.journal.room + length q.locks.locks.granted + 1 ≡ p.journal.room) (woke : q.sessions ≡ woken q.locks.locks.granted p.sessions) (tables_same : q.tables ≡ p.tables) (count_same : q.locks.sessions ≡ p.locks.sessions) (settled : IsSettled q.locks.locks) (weight_same : q.weight ≡ p.weight) (controls_kept : KeepsControls (listed_in p) (listed_in q)) where
     pub amid_commits : t.xact ≡ Some x → MayCome terms was (Commit x) → past_of q.journal ≡ locked_by (xact_in p.sessions) q.locks.locks.granted (Commit x ∷ was) → q.committed ≡ slice_set p.committed x true → IsAmid terms q s (used + 1)
     amid_commits own comes noted marked =
         let tells : TellsCommitted (Commit x ∷ was) q.committed = rw marked (tells_commit was p.committed x (amid.sound.marked s x t there own) amid.sound.tells) in
         let marks : length q.committed ≡ length p.committed = rw marked (length-set p.committed x true) in
-        amid_ended terms p q s used t (Commit x) amid there by refl refl (λ h. wants_committed was x (rw by.session h)) (commit_comes comes) tells marks (few_granted p.locks.locks q.locks.locks s hands) noted room woke tables_same count_same settled weight_same
+        amid_ended terms p q s used t (Commit x) amid there by refl refl (λ h. wants_committed was x (rw by.session h)) (commit_comes comes) tells marks (few_granted p.locks.locks q.locks.locks s hands) noted room woke tables_same count_same settled weight_same controls_kept
 
     pub amid_aborts : MayCome terms was (Abort x) → past_of q.journal ≡ locked_by (xact_in p.sessions) q.locks.locks.granted (Abort x ∷ was) → q.committed ≡ p.committed → IsAmid terms q s (used + 1)
     amid_aborts comes noted marked =
         let tells : TellsCommitted (Abort x ∷ was) q.committed = rw marked (tells_abort was p.committed x (xact_is terms was s x amid.sound.legal by.open_xact).undecided amid.sound.tells) in
-        amid_ended terms p q s used t (Abort x) amid there by refl refl (λ h. wants_aborted was x (rw by.session h)) (abort_comes comes) tells (ap (λ (marks : List Bool). length marks) marked) (few_granted p.locks.locks q.locks.locks s hands) noted room woke tables_same count_same settled weight_same
+        amid_ended terms p q s used t (Abort x) amid there by refl refl (λ h. wants_aborted was x (rw by.session h)) (abort_comes comes) tells (ap (λ (marks : List Bool). length marks) marked) (few_granted p.locks.locks q.locks.locks s hands) noted room woke tables_same count_same settled weight_same controls_kept
 
 -- ---- the call ends by such an entry, and the session's record is changed
 
-module _ (terms : Terms) (p q : Parts) (s used : ℕ) (t u : Session) (e : Entry) (amid : IsAmid terms p s used) (there : slice_get p.sessions s ≡ Some t) (still : IsStill e) (by : IsBy (past_of p.journal) s e) (comes : MayCome terms (past_of p.journal) e) (unasked : asks s (waiting (past_of p.journal)) ≡ false) (settled : is_settled (past_of p.journal) ≡ true) (none_owed : owed terms (e ∷ past_of p.journal) ≡ None) (own : IsMirror terms (doing (e ∷ past_of p.journal) s) u) (its : (x : ℕ) → u.xact ≡ Some x → t.xact ≡ Some x) (fits : light_of u + used + 1 ≤ light_of t) (noted : past_of q.journal ≡ e ∷ past_of p.journal) (room : q.journal.room + 1 ≡ p.journal.room) (set : q.sessions ≡ slice_set p.sessions s u) (tables_same : q.tables ≡ p.tables) (locks_same : q.locks ≡ p.locks) (committed_same : q.committed ≡ p.committed) (weight_same : q.weight ≡ p.weight) where
+module _ (terms : Terms) (p q : Parts) (s used : ℕ) (t u : Session) (e : Entry) (amid : IsAmid terms p s used) (there : slice_get p.sessions s ≡ Some t) (still : IsStill e) (by : IsBy (past_of p.journal) s e) (comes : MayCome terms (past_of p.journal) e) (unasked : asks s (waiting (past_of p.journal)) ≡ false) (settled : is_settled (past_of p.journal) ≡ true) (none_owed : owed terms (e ∷ past_of p.journal) ≡ None) (own : IsMirror terms (doing (e ∷ past_of p.journal) s) u) (its : (x : ℕ) → u.xact ≡ Some x → t.xact ≡ Some x) (fits : light_of u + used + 1 ≤ light_of t) (noted : past_of q.journal ≡ e ∷ past_of p.journal) (room : q.journal.room + 1 ≡ p.journal.room) (set : q.sessions ≡ slice_set p.sessions s u) (tables_same : q.tables ≡ p.tables) (locks_same : q.locks ≡ p.locks) (committed_same : q.committed ≡ p.committed) (weight_same : q.weight ≡ p.weight) (controls_kept : KeepsControls (listed_in p) (listed_in q)) where
   abbrev last : Past
   last = past_of p.journal
 
@@ -203,6 +206,7 @@ module _ (terms : Terms) (p q : Parts) (s used : ℕ) (t u : Session) (e : Entry
   stops_sound = record {
     legal = rw noted (comes, amid.sound.legal);
     count = rw set (length_set p.sessions s u ∙ amid.sound.count);
+    controlled = controls_kept terms amid.sound.controlled;
     beyond = λ r le.
         let far : length p.sessions ≤ r = rw (set, length_set p.sessions s u) at le in
         let same : doing (e ∷ last) r ≡ doing last r = others_stay terms last s r amid.sound.legal (beyond_others p.sessions s r t there far) e by in

@@ -29,7 +29,8 @@ use Rattle.al_history.proofs.Doings.{Doing, doing, moved, IsXact, IsBy, own_move
 use Rattle.al_history.proofs.Turns.{Went, stage_begins, stage_on, stage_went, wait_went, step_lock}
 use Rattle.al_history.proofs.Xacts.{xact_is}
 use Rattle.al_engine.specs.declared.sessions.Session.{Session}
-use Rattle.al_engine.specs.Kept.{Parts, IsKept, CanBeRefused, Lacks, over_by, used_by}
+use Rattle.al_engine.specs.Listed.{KeepsControls, Listed}
+use Rattle.al_engine.specs.Kept.{listed_in, Parts, IsKept, CanBeRefused, Lacks, over_by, used_by}
 use Rattle.al_engine.specs.LockTie.{grant_of, asks, IsTied}
 use Rattle.al_engine.specs.Sessions.{IsMirror, IsUnderway, IsOutlined}
 use Rattle.al_engine.proofs.SessionLemmas.{light_set, length_set, mirrors_set, marked_set}
@@ -183,7 +184,7 @@ module _ (terms : Terms) (p : Parts) (s : ℕ) (t : Session) (x : ℕ) (c : Clai
   underway = (k.kept.mirrors s t k.state).underway
 
   -- it got the lock
-  module _ (q : Parts) (a : AskedSo q) (sessions : q.sessions ≡ p.sessions) (past_is : past_of q.journal ≡ Lock x c.table c.mode ∷ past_of p.journal) (can : is_grantable p.locks.locks (grant_of c) ≡ true) where
+  module _ (q : Parts) (a : AskedSo q) (same : listed_in q ≡ listed_in p) (past_is : past_of q.journal ≡ Lock x c.table c.mode ∷ past_of p.journal) (can : is_grantable p.locks.locks (grant_of c) ≡ true) where
     lock_may : MayCome terms (past_of p.journal) (Lock x c.table c.mode)
     lock_may = comes_lock terms (past_of p.journal) s (doing (past_of p.journal) s) k.kept.sound.legal refl k.kept.clear.settled x by c k.own (sym can_is ∙ can) unasked lacks_so k.before_look (judged_so ∙ a.fits) k.kept.clear.owed_is k.goes where
       unasked : is_waiting (past_of p.journal) c ≡ false
@@ -201,6 +202,9 @@ module _ (terms : Terms) (p : Parts) (s : ℕ) (t : Session) (x : ℕ) (c : Clai
       underway = λ block busy. still_underway terms (doing (past_of p.journal) s) (moved (past_of p.journal) (Lock x c.table c.mode) (doing (past_of p.journal) s)) block t.done t.left t.looked refl refl refl refl (underway block busy);
     })
 
+    sessions : q.sessions ≡ p.sessions
+    sessions = ap (λ (l : Listed). l.list) same
+
     got_waiting : q.locks.locks.waiting ≡ p.locks.locks.waiting
     got_waiting = rw (a.locks, can) refl
 
@@ -215,6 +219,7 @@ module _ (terms : Terms) (p : Parts) (s : ℕ) (t : Session) (x : ℕ) (c : Clai
       sound = record {
         legal = rw past_is (lock_may, k.kept.sound.legal);
         count = rw sessions k.kept.sound.count;
+        controlled = rw same k.kept.sound.controlled;
         beyond = λ r le. rw past_is (k.kept.sound.beyond r (rw sessions at le));
         stored = rw (a.tables, past_is) k.kept.sound.stored;
         tells = λ y. rw (a.committed, past_is) (k.kept.sound.tells y);
@@ -240,7 +245,7 @@ module _ (terms : Terms) (p : Parts) (s : ℕ) (t : Session) (x : ℕ) (c : Clai
     got_went = rw past_is (stage_went terms s (past_of p.journal) (Lock x c.table c.mode ∷ past_of p.journal) 0 (stage_on terms s (past_of p.journal) (past_of p.journal) 0 0 (Lock x c.table c.mode) (stage_begins terms s (past_of p.journal) k.kept.sound.legal k.kept.clear.settled k.kept.clear.owed_is) (step_lock x c.table c.mode) by lock_may got_settled k.kept.clear.owed_is got_goes (omega arith)) (omega arith) (omega arith))
 
   -- its request waits
-  module _ (q : Parts) (a : AskedSo q) (sessions : q.sessions ≡ slice_set p.sessions s (record t { wants = Some (wants.Table c.table c.mode) })) (past_is : past_of q.journal ≡ Wait x (wants.Table c.table c.mode) ∷ past_of p.journal) (cant : is_grantable p.locks.locks (grant_of c) ≡ false) where
+  module _ (q : Parts) (a : AskedSo q) (sessions : q.sessions ≡ slice_set p.sessions s (record t { wants = Some (wants.Table c.table c.mode) })) (controls_kept : KeepsControls (listed_in p) (listed_in q)) (past_is : past_of q.journal ≡ Wait x (wants.Table c.table c.mode) ∷ past_of p.journal) (cant : is_grantable p.locks.locks (grant_of c) ≡ false) where
     wait_may : MayCome terms (past_of p.journal) (Wait x (wants.Table c.table c.mode))
     wait_may = by_hand (hand (past_of p.journal) s) refl (unblocked (is_some (hand (past_of p.journal) s)) (is_blocked (past_of p.journal) s) k.goes).0 where
       by_hand : (o : Option ℕ) → hand (past_of p.journal) s ≡ o → is_some o ≡ true → MayCome terms (past_of p.journal) (Wait x (wants.Table c.table c.mode))
@@ -270,6 +275,7 @@ module _ (terms : Terms) (p : Parts) (s : ℕ) (t : Session) (x : ℕ) (c : Clai
       sound = record {
         legal = rw past_is (wait_may, k.kept.sound.legal);
         count = rw sessions (length_set p.sessions s (record t { wants = Some (wants.Table c.table c.mode) }) ∙ k.kept.sound.count);
+        controlled = controls_kept terms k.kept.sound.controlled;
         beyond = λ r le. rw past_is (k.kept.sound.beyond r (rw (sessions, length_set p.sessions s (record t { wants = Some (wants.Table c.table c.mode) })) at le));
         stored = rw (a.tables, past_is) k.kept.sound.stored;
         tells = λ y. rw (a.committed, past_is) (k.kept.sound.tells y);

@@ -30,9 +30,10 @@ use Rattle.al_engine.specs.declared.sessions.Session.{Session}
 use Rattle.al_engine.specs.declared.sessions.Block.{Block}
 use Rattle.al_engine.specs.declared.sessions.Block.TheVariants as blocks
 use Rattle.al_engine.specs.LockTie.{locked_by, is_granted}
-use Rattle.al_engine.specs.Sessions.{xact_in, woken, state_of, light_of, light}
-use Rattle.al_engine.specs.Kept.{Parts, IsAmid, IsKept, CanBeRefused}
-use Rattle.al_engine.specs.Ended.{IsLast, stopped, onward, IsOver, end_reply, IsEnded}
+use Rattle.al_engine.specs.Sessions.{xact_in, woken, state_of, light_of, light, stopped, onward}
+use Rattle.al_engine.specs.Listed.{KeepsControls}
+use Rattle.al_engine.specs.Kept.{listed_in, Parts, IsAmid, IsKept, CanBeRefused}
+use Rattle.al_engine.specs.Ended.{IsLast, IsOver, end_reply, IsEnded}
 use Rattle.al_engine.proofs.Amid.{amid_begins, commit_comes, abort_comes, amid_commits, amid_aborts}
 use Rattle.al_engine.proofs.FailedBlocks.{open_unfailed}
 use Rattle.al_engine.proofs.Grants.{HaveCome, settled_then}
@@ -76,6 +77,7 @@ begin_over terms p s state kept there can some statement =
     record {
       amid = amid_begins terms p s kept;
       there = there;
+      like = refl;
       is_last = record {
         block = g.block;
         busy = g.outline.hand_is ∙ g.busy;
@@ -121,6 +123,7 @@ none_ended terms p s state commits kept there can statement none =
       over = record {
         amid = amid_begins terms p s kept;
         there = there;
+        like = refl;
         is_last = record {
           block = g.block;
           busy = g.outline.hand_is ∙ g.busy;
@@ -208,6 +211,7 @@ module _ (terms : Terms) (p m : Parts) (s x : ℕ) (state : Session) (commits : 
           over = record {
             amid = amid;
             there = rw (woke, woken_get granted p.sessions s, there) refl;
+            like = refl;
             is_last = rw noted last_then;
             settled = rw noted settled_so;
             unasked = rw noted (unasked_idle terms then s come.legal last_then.xact_is);
@@ -227,7 +231,7 @@ module _ (terms : Terms) (p m : Parts) (s x : ℕ) (state : Session) (commits : 
       let some : 1 ≤ light_of state = rw (g.busy, own) (omega arith) in
       omega (arith, reserved, some, light_at p.sessions s state there)
 
-  module _ (hands : HandsOn (released p.locks.locks s) m.locks.locks) (room : m.journal.room + length granted + 1 ≡ p.journal.room) (woke : m.sessions ≡ woken granted p.sessions) (tables : m.tables ≡ p.tables) (count_same : m.locks.sessions ≡ p.locks.sessions) (settled : IsSettled m.locks.locks) (weight_same : m.weight ≡ p.weight) where
+  module _ (hands : HandsOn (released p.locks.locks s) m.locks.locks) (room : m.journal.room + length granted + 1 ≡ p.journal.room) (woke : m.sessions ≡ woken granted p.sessions) (tables : m.tables ≡ p.tables) (count_same : m.locks.sessions ≡ p.locks.sessions) (settled : IsSettled m.locks.locks) (weight_same : m.weight ≡ p.weight) (controls_kept : KeepsControls (listed_in p) (listed_in m)) where
     pub commit_ended : commits ≡ true → past_of m.journal ≡ locked_by (xact_in p.sessions) granted (Commit x ∷ old) → m.committed ≡ slice_set p.committed x true → IsEnded terms m s state old commits
     commit_ended commits_so noted marked =
         let g : IsGoing terms old s state = going_so in
@@ -238,7 +242,7 @@ module _ (terms : Terms) (p m : Parts) (s x : ℕ) (state : Session) (commits : 
         let begins : Tail terms s old (Commit x ∷ old) false (driver old) (IsLeast old s) = tail_begins terms s old old 0 (Commit x) (stage_begins terms s old kept.sound.legal kept.clear.settled kept.clear.owed_is) (omega arith) (omega arith) (tail_commit x) (λ past r. refl) by comes_so (λ least. rw (kept.clear.owed_is, by.session) least) in
         let tag : commit_tag (state_of state.block) ≡ tags.Commit = unfailed_tag (state_of state.block) (λ r failed. open_unfailed terms old s x r kept.sound.legal kept.clear.owed_is by.open_xact (g.outline.block_is ∙ failed)) in
         let owes : owed terms (Commit x ∷ old) ≡ Some (Done s (end_reply state commits)) = rw (by.session, g.outline.hand_is, g.under.dones_is, in_hand_is, commits_so, tag) refl in
-        xact_ended (Commit x) by refl begins owes (commit_comes terms p m s 0 x state amid there by hands comes_so) (amid_commits terms p m s 0 x state amid there by hands room woke tables count_same settled weight_same own comes_so noted marked) noted woke settled
+        xact_ended (Commit x) by refl begins owes (commit_comes terms p m s 0 x state amid there by hands comes_so) (amid_commits terms p m s 0 x state amid there by hands room woke tables count_same settled weight_same controls_kept own comes_so noted marked) noted woke settled
 
     pub abort_ended : commits ≡ false → past_of m.journal ≡ locked_by (xact_in p.sessions) granted (Abort x ∷ old) → m.committed ≡ p.committed → IsEnded terms m s state old commits
     abort_ended aborts_so noted marked =
@@ -250,7 +254,7 @@ module _ (terms : Terms) (p m : Parts) (s x : ℕ) (state : Session) (commits : 
         let comes_so : MayCome terms old (Abort x) = comes_abort terms old s (doing old s) kept.sound.legal refl kept.clear.settled x by (inr (rw (g.outline.hand_is, g.under.dones_is) in_hand_is)) (rw kept.clear.owed_is tt) (rw (busy, kept.clear.owed_is) can) in
         let begins : Tail terms s old (Abort x ∷ old) false (driver old) (IsLeast old s) = tail_begins terms s old old 0 (Abort x) (stage_begins terms s old kept.sound.legal kept.clear.settled kept.clear.owed_is) (omega arith) (omega arith) (tail_abort x) (λ past r. refl) by comes_so (λ least. rw (by.session, busy, kept.clear.owed_is) least) in
         let owes : owed terms (Abort x ∷ old) ≡ Some (Done s (end_reply state commits)) = rw (by.session, busy, g.under.none_refused, aborts_so) refl in
-        xact_ended (Abort x) by refl begins owes (abort_comes terms p m s 0 x state amid there by hands comes_so) (amid_aborts terms p m s 0 x state amid there by hands room woke tables count_same settled weight_same comes_so noted marked) noted woke settled
+        xact_ended (Abort x) by refl begins owes (abort_comes terms p m s 0 x state amid there by hands comes_so) (amid_aborts terms p m s 0 x state amid there by hands room woke tables count_same settled weight_same controls_kept comes_so noted marked) noted woke settled
 
 -- the block is over
 pub end_closes : (state : Session) (commits : Bool) → NoBlock ≡ block_after (end_reply state commits) (state_of state.block)

@@ -35,7 +35,8 @@ use Rattle.al_history.proofs.Weights.{weighs}
 use Rattle.al_history.proofs.Xacts.{turn}
 use Rattle.al_engine.specs.declared.sessions.Session.{Session}
 use Rattle.al_engine.specs.Creating.{taker_in, seen_in, look_past, limit_in}
-use Rattle.al_engine.specs.Kept.{Parts, IsKept, IsAmid, CanBeDone, CanBeRefused, used_by, over_by}
+use Rattle.al_engine.specs.Listed.{KeepsControls}
+use Rattle.al_engine.specs.Kept.{listed_in, Parts, IsKept, IsAmid, CanBeDone, CanBeRefused, used_by, over_by}
 use Rattle.al_engine.specs.LockTie.{OthersWant, WantsSo, asks}
 use Rattle.al_engine.specs.Sessions.{IsMirror, IsUnderway, xacts_in}
 use Rattle.al_engine.specs.Stored.{all_kept}
@@ -308,11 +309,12 @@ module _ (terms : Terms) (p : Parts) (s : ℕ) (t : Session) (x : ℕ) (name : L
         others_want : OthersWant s past
         others_want c there apart = ap (λ (d : Doing). d.wants) (h.stage.others c.session (turn c.session s apart)) ∙ kept.wants_so c (rw h.waiting_same at there)
 
-      waits_kept : (q : Parts) → slice_get p.sessions s ≡ Some t → asks s (waiting (past_of p.journal)) ≡ false → q.sessions ≡ slice_set p.sessions s (record t { looked = true; wants = Some (wants.Ends other) }) → q.tables ≡ p.tables → q.locks ≡ p.locks → q.committed ≡ p.committed → p.journal.room ≤ q.journal.room → q.weight ≡ p.weight + cond t.looked 0 1 + 2 → past_of q.journal ≡ Wait x (wants.Ends other) ∷ past → IsKept terms q
-      waits_kept q state none sessions tables locks committed room weighed past_is = record {
+      waits_kept : (q : Parts) → slice_get p.sessions s ≡ Some t → asks s (waiting (past_of p.journal)) ≡ false → q.sessions ≡ slice_set p.sessions s (record t { looked = true; wants = Some (wants.Ends other) }) → KeepsControls (listed_in p) (listed_in q) → q.tables ≡ p.tables → q.locks ≡ p.locks → q.committed ≡ p.committed → p.journal.room ≤ q.journal.room → q.weight ≡ p.weight + cond t.looked 0 1 + 2 → past_of q.journal ≡ Wait x (wants.Ends other) ∷ past → IsKept terms q
+      waits_kept q state none sessions controls_kept tables locks committed room weighed past_is = record {
         sound = record {
           legal = rw past_is (end_may, h.works.legal);
           count = rw sessions (length_set p.sessions s (record t { looked = true; wants = Some (wants.Ends other) }) ∙ kept.sound.count);
+          controlled = controls_kept terms kept.sound.controlled;
           beyond = λ r le. rw past_is (h.stage.hands r ∙ kept.sound.beyond r (rw (sessions, length_set p.sessions s (record t { looked = true; wants = Some (wants.Ends other) })) at le));
           stored = rw (tables, past_is) h.store_so;
           tells = λ y. rw (committed, past_is, h.stage.fates y) (kept.sound.tells y);
@@ -360,18 +362,18 @@ module _ (terms : Terms) (p : Parts) (s : ℕ) (t : Session) (x : ℕ) (name : L
   now_looked = has_looked terms p s t x name columns kept state goes_on in_xact statement_is fits
 
   -- what it leaves as it was
-  create_stays : (q : Parts) (past : Past) → past_of q.journal ≡ past → q.sessions ≡ p.sessions → q.locks ≡ p.locks → q.committed ≡ p.committed → p.journal.room ≤ q.journal.room → q.weight ≡ weight past → held past ≡ held (look_past t.looked x (past_of p.journal)) → waiting past ≡ waiting (look_past t.looked x (past_of p.journal)) → StaysBut p q
+  create_stays : (q : Parts) (past : Past) → past_of q.journal ≡ past → listed_in q ≡ listed_in p → q.locks ≡ p.locks → q.committed ≡ p.committed → p.journal.room ≤ q.journal.room → q.weight ≡ weight past → held past ≡ held (look_past t.looked x (past_of p.journal)) → waiting past ≡ waiting (look_past t.looked x (past_of p.journal)) → StaysBut p q
   create_stays q past is sessions locks committed room weighed held_same waiting_same = stays p q past is sessions locks committed room (held_same ∙ now_looked.held_same) (waiting_same ∙ now_looked.waiting_same) weighed
 
-  pub create_fails : (cause : Cause) (q : Parts) → Some cause ≡ refusal_in terms p t.looked x name columns → past_of q.journal ≡ look_past t.looked x (past_of p.journal) → p.journal.room ≤ q.journal.room → q.weight ≡ p.weight + cond t.looked 0 1 → q.sessions ≡ p.sessions → q.tables ≡ p.tables → q.locks ≡ p.locks → q.committed ≡ p.committed → HasFailed terms p q s t cause
+  pub create_fails : (cause : Cause) (q : Parts) → Some cause ≡ refusal_in terms p t.looked x name columns → past_of q.journal ≡ look_past t.looked x (past_of p.journal) → p.journal.room ≤ q.journal.room → q.weight ≡ p.weight + cond t.looked 0 1 → listed_in q ≡ listed_in p → q.tables ≡ p.tables → q.locks ≡ p.locks → q.committed ≡ p.committed → HasFailed terms p q s t cause
   create_fails cause q is past_is room weighed sessions tables locks committed = fails terms p s t x name columns (look_past t.looked x (past_of p.journal)) kept now_looked cause q is (create_stays q _ past_is sessions locks committed room (weighed ∙ now_looked.weighs_so) refl refl) tables past_is
 
   module _ (free : refusal_in terms p t.looked x name columns ≡ None) where
-    pub create_makes : (number : ℕ) (q : Parts) → taker_in p x name ≡ None → number ≡ length (look_past t.looked x (past_of p.journal)) → past_of q.journal ≡ Make x number name (shape_of columns) ∷ look_past t.looked x (past_of p.journal) → p.journal.room ≤ q.journal.room → q.weight ≡ p.weight + cond t.looked 0 1 + (1 + length columns) → q.sessions ≡ p.sessions → all_kept q.tables ≡ all_kept p.tables ++ record { number = number; maker = x; name = name; slots = slots_of x (shape_of columns); rows = [] } ∷ [] → q.locks ≡ p.locks → q.committed ≡ p.committed → HasActed terms p q s t (replies.Tag tags.CreateTable 0) 0
+    pub create_makes : (number : ℕ) (q : Parts) → taker_in p x name ≡ None → number ≡ length (look_past t.looked x (past_of p.journal)) → past_of q.journal ≡ Make x number name (shape_of columns) ∷ look_past t.looked x (past_of p.journal) → p.journal.room ≤ q.journal.room → q.weight ≡ p.weight + cond t.looked 0 1 + (1 + length columns) → listed_in q ≡ listed_in p → all_kept q.tables ≡ all_kept p.tables ++ record { number = number; maker = x; name = name; slots = slots_of x (shape_of columns); rows = [] } ∷ [] → q.locks ≡ p.locks → q.committed ≡ p.committed → HasActed terms p q s t (replies.Tag tags.CreateTable 0) 0
     create_makes number q untaken place past_is room weighed sessions tables locks committed = makes terms p s t x name columns (look_past t.looked x (past_of p.journal)) kept now_looked free number q untaken place (create_stays q _ past_is sessions locks committed room (weighed ∙ rw (now_looked.weighs_so, shape_length columns) refl) refl refl) tables past_is
 
-    pub create_waits : (other : ℕ) (q : Parts) → taker_in p x name ≡ Some other → past_of q.journal ≡ Wait x (wants.Ends other) ∷ look_past t.looked x (past_of p.journal) → p.journal.room ≤ q.journal.room → q.weight ≡ p.weight + cond t.looked 0 1 + 2 → q.sessions ≡ slice_set p.sessions s (record t { looked = true; wants = Some (wants.Ends other) }) → q.tables ≡ p.tables → q.locks ≡ p.locks → q.committed ≡ p.committed → IsKept terms q
-    create_waits other q taken past_is room weighed sessions tables locks committed = waits_kept terms p s t x name columns (look_past t.looked x (past_of p.journal)) kept now_looked free other taken q state (asks_none terms p s t x (statements.CreateTable name columns) kept state in_xact statement_is goes_on) sessions tables locks committed room weighed past_is
+    pub create_waits : (other : ℕ) (q : Parts) → taker_in p x name ≡ Some other → past_of q.journal ≡ Wait x (wants.Ends other) ∷ look_past t.looked x (past_of p.journal) → p.journal.room ≤ q.journal.room → q.weight ≡ p.weight + cond t.looked 0 1 + 2 → q.sessions ≡ slice_set p.sessions s (record t { looked = true; wants = Some (wants.Ends other) }) → KeepsControls (listed_in p) (listed_in q) → q.tables ≡ p.tables → q.locks ≡ p.locks → q.committed ≡ p.committed → IsKept terms q
+    create_waits other q taken past_is room weighed sessions controls_kept tables locks committed = waits_kept terms p s t x name columns (look_past t.looked x (past_of p.journal)) kept now_looked free other taken q state (asks_none terms p s t x (statements.CreateTable name columns) kept state in_xact statement_is goes_on) sessions controls_kept tables locks committed room weighed past_is
 
     pub create_waits_went : (other : ℕ) (new : Past) → taker_in p x name ≡ Some other → new ≡ Wait x (wants.Ends other) ∷ look_past t.looked x (past_of p.journal) → Went terms s (past_of p.journal) new false (driver (past_of p.journal)) (IsLeast (past_of p.journal) s)
     create_waits_went other new taken is = rw is (waits_went terms p s t x name columns (look_past t.looked x (past_of p.journal)) kept now_looked free other taken)

@@ -22,8 +22,9 @@ use Rattle.al_engine.specs.declared.sessions.Block.{Block}
 use Rattle.al_engine.specs.declared.sessions.Block.TheVariants as blocks
 use Rattle.al_engine.specs.declared.sessions.Session.{Session}
 use Rattle.al_engine.specs.LockTie.{locked_by, is_granted}
-use Rattle.al_engine.specs.Sessions.{xact_in, woken, state_of, IsMirror, of_xact, of_step, light_of, IsCounted, script_length, of_hand}
-use Rattle.al_engine.specs.Kept.{Parts, IsSound, IsAmid, IsClear, IsKept, CanBeDone}
+use Rattle.al_engine.specs.Sessions.{xact_in, woken, state_of, IsMirror, of_xact, of_step, light_of, IsCounted, script_length, of_hand, stopped}
+use Rattle.al_engine.specs.Listed.{KeepsControls}
+use Rattle.al_engine.specs.Kept.{listed_in, Parts, IsSound, IsAmid, IsClear, IsKept, CanBeDone}
 use Rattle.al_engine.proofs.Amid.{still_done, still_end, amid_notes, commit_comes, amid_commits, amid_stops}
 use Rattle.al_engine.proofs.Grants.{HaveCome, settled_then}
 use Rattle.al_engine.proofs.LockLists.{LeavesSo, leaves_so}
@@ -42,7 +43,7 @@ spent t x = record { hand = t.hand; dones = t.done + 1; refused = false; xact = 
 
 -- its record when its step has ended
 abbrev pub rested : Session → Option ℕ → Session
-rested t x = record t { hand = None; xact = x; looked = false; wants = None }
+rested t x = stopped t x t.block
 
 rests : (terms : Terms) (past : Past) (s : ℕ) (t : Session) (x : Option ℕ) → doing past s ≡ spent t x → IsMirror terms (doing (End s ∷ past) s) (rested t x)
 rests terms past s t x is =
@@ -87,13 +88,13 @@ module _ (terms : Terms) (p m q : Parts) (j : Kept) (s block x : ℕ) (t : Sessi
   old = past_of p.journal
 
   abbrev a : Parts
-  a = record { journal = j; sessions = p.sessions; tables = p.tables; locks = p.locks; committed = p.committed; weight = p.weight }
+  a = record { journal = j; sessions = p.sessions; controls = p.controls; tables = p.tables; locks = p.locks; committed = p.committed; weight = p.weight }
 
   none_last : statement_of terms t.hand (t.done + 1) ≡ None
   none_last = none_after terms old s block t reply amid.sound.legal clear done busy last
 
   amid_done : IsAmid terms a s 1
-  amid_done = amid_notes terms p a s 0 t (Done s reply) amid there (still_done s reply) refl (done_comes terms old s block t reply amid.sound.legal clear done busy) noted noted_room refl refl refl refl refl
+  amid_done = amid_notes terms p a s 0 t (Done s reply) amid there (still_done s reply) refl (done_comes terms old s block t reply amid.sound.legal clear done busy) noted noted_room refl refl refl refl refl (λ t held. held)
 
   by : IsXact (Done s reply ∷ old) s x
   by = let open_so : xact_of old s ≡ Some x = done.outline.xact_is ∙ own in record { session = (xact_is terms old s x amid.sound.legal open_so).own; open_xact = open_so }
@@ -113,9 +114,9 @@ module _ (terms : Terms) (p m q : Parts) (j : Kept) (s block x : ℕ) (t : Sessi
   tail_done : Tail terms s old (past_of j) false (driver old) (IsLeast old s)
   tail_done = rw noted (tail_by_done terms s old reply amid.sound.legal clear.owed_is (done_comes terms old s block t reply amid.sound.legal clear done busy))
 
-  module _ (c_noted : past_of m.journal ≡ locked_by (xact_in p.sessions) m.locks.locks.granted (Commit x ∷ past_of j)) (c_room : m.journal.room + length m.locks.locks.granted + 1 ≡ j.room) (c_woke : m.sessions ≡ woken m.locks.locks.granted p.sessions) (c_tables : m.tables ≡ p.tables) (c_count : m.locks.sessions ≡ p.locks.sessions) (c_marked : m.committed ≡ slice_set p.committed x true) (c_settled : IsSettled m.locks.locks) (c_hands : HandsOn (released p.locks.locks s) m.locks.locks) (c_weight : m.weight ≡ p.weight) where
+  module _ (c_noted : past_of m.journal ≡ locked_by (xact_in p.sessions) m.locks.locks.granted (Commit x ∷ past_of j)) (c_room : m.journal.room + length m.locks.locks.granted + 1 ≡ j.room) (c_woke : m.sessions ≡ woken m.locks.locks.granted p.sessions) (c_tables : m.tables ≡ p.tables) (c_count : m.locks.sessions ≡ p.locks.sessions) (c_marked : m.committed ≡ slice_set p.committed x true) (c_settled : IsSettled m.locks.locks) (c_hands : HandsOn (released p.locks.locks s) m.locks.locks) (c_weight : m.weight ≡ p.weight) (c_controls : KeepsControls (listed_in p) (listed_in m)) where
     amid_committed : IsAmid terms m s 2
-    amid_committed = amid_commits terms a m s 1 x t amid_done there by_done c_hands c_room c_woke c_tables c_count c_settled c_weight own commit_may c_noted c_marked
+    amid_committed = amid_commits terms a m s 1 x t amid_done there by_done c_hands c_room c_woke c_tables c_count c_settled c_weight c_controls own commit_may c_noted c_marked
 
     come : HaveCome terms (xact_in p.sessions) m.locks.locks.granted (Commit x ∷ past_of j) m.locks.locks
     come = commit_comes terms a m s 1 x t amid_done there by_done c_hands commit_may
@@ -146,11 +147,11 @@ module _ (terms : Terms) (p m q : Parts) (j : Kept) (s block x : ℕ) (t : Sessi
     tail_committed : Tail terms s old (past_of m.journal) false (driver old) (IsLeast old s)
     tail_committed = rw c_noted (tail_granted terms s old (Commit x ∷ past_of j) false (driver old) (IsLeast old s) (xact_in p.sessions) m.locks.locks come (tail_on terms s old (past_of j) false (driver old) (IsLeast old s) (Commit x) tail_done (tail_commit x) (λ past r. refl) (inl by_done.session) commit_may (rw noted (rw owes_done tt))))
 
-    module _ (e_noted : past_of q.journal ≡ End s ∷ past_of m.journal) (e_room : q.journal.room + 1 ≡ m.journal.room) (e_set : q.sessions ≡ slice_set m.sessions s (rested t None)) (e_tables : q.tables ≡ m.tables) (e_locks : q.locks ≡ m.locks) (e_committed : q.committed ≡ m.committed) (e_weight : q.weight ≡ m.weight) where
+    module _ (e_noted : past_of q.journal ≡ End s ∷ past_of m.journal) (e_room : q.journal.room + 1 ≡ m.journal.room) (e_set : q.sessions ≡ slice_set m.sessions s (rested t None)) (e_tables : q.tables ≡ m.tables) (e_locks : q.locks ≡ m.locks) (e_committed : q.committed ≡ m.committed) (e_weight : q.weight ≡ m.weight) (e_controls : KeepsControls (listed_in m) (listed_in q)) where
       pub commits_kept : IsKept terms q
       commits_kept =
           let fits : light_of (rested t None) + 2 + 1 ≤ light_of (calmed calms t) = rw (own, busy) (omega arith) in
-          amid_stops terms m q s 2 (calmed calms t) (rested t None) (End s) amid_committed there_then (still_end s) refl end_may (unasked_idle terms (past_of m.journal) s amid_committed.sound.legal (ap (λ (d : Doing). d.xact) state_committed)) settled_then_so refl (rests terms (past_of m.journal) s t None state_committed) (λ y its. absurd cc) fits e_noted e_room e_set e_tables e_locks e_committed e_weight
+          amid_stops terms m q s 2 (calmed calms t) (rested t None) (End s) amid_committed there_then (still_end s) refl end_may (unasked_idle terms (past_of m.journal) s amid_committed.sound.legal (ap (λ (d : Doing). d.xact) state_committed)) settled_then_so refl (rests terms (past_of m.journal) s t None state_committed) (λ y its. absurd cc) fits e_noted e_room e_set e_tables e_locks e_committed e_weight e_controls
 
       pub commits_went : Went terms s old (past_of q.journal) false (driver old) (IsLeast old s)
       commits_went = rw e_noted (tail_ends terms s old (past_of m.journal) false (driver old) (IsLeast old s) tail_committed end_may (rw owes_end tt))
@@ -172,6 +173,7 @@ over_by_done terms p s block t reply amid clear there done busy within =
     record {
       amid = amid;
       there = there;
+      like = refl;
       is_last = record {
         block = block;
         busy = done.outline.hand_is ∙ busy;

@@ -1,8 +1,8 @@
 -- What the engine keeps through each of its calls, and what contracts see of them.
 use Rattle.std.proofs.Common.{◌≡◌, ℕ, suc, zero, ◌+◌, ◌<◌, ◌≤◌, [], ◌∷◌, length, refl, sym, ap, cond, true, false, Bool, Option, Some, None, arith, ◌∙◌, slice_get, slice_set, option_map, replicate, inl, inr, ◌-◌, ◌^◌}
-use Rattle.std.specs.Prelude.{◌==◌, is_some, get_or}
+use Rattle.std.specs.Prelude.{◌==◌, is_some, Result, Ok, Err}
 use Rattle.std.proofs.lemmas.Bool.{ne_eqb}
-use Rattle.std.proofs.lemmas.Option.{slice_get_within, slice_get_read}
+use Rattle.std.proofs.lemmas.Option.{slice_get_within}
 use Rattle.al_history.specs.declared.entry.Cause.TheVariants as causes
 use Rattle.al_history.specs.declared.entry.Entry.TheVariants.{Give, Abort, Cancel, Close}
 use Rattle.al_history.specs.declared.entry.Want.{Want}
@@ -25,9 +25,16 @@ use Rattle.al_queue.specs.Settled.{IsSettled, HandsOn}
 use Rattle.al_engine.specs.declared.sessions.Session.{Session}
 use Rattle.al_engine.specs.Ran.{WentOn, IsWaitingTurn, IsCancelled, IsClosed}
 use Rattle.al_engine.specs.LockTie.{locked_by, locks_of, is_granted}
-use Rattle.al_engine.specs.Sessions.{idle_session, IsMirror, xact_in, woken, is_held_up, light, light_of, of_step, of_xact, script_length}
-use Rattle.al_engine.specs.Kept.{Parts, IsAmid, IsKept, IsSame, CanBeRefused, IsRefused}
+use Rattle.al_engine.specs.Sessions.{idle_session, IsMirror, xact_in, woken, is_held_up, light, light_of, of_step, of_xact, length_in, length_at, script_length, given}
+use Rattle.al_engine.specs.Listed.{KeepsControls, HasSameStep, controls_by, controls_for, controls_at}
+use Rattle.al_engine.specs.Kept.{parts_of, past_in, listed_in, Parts, IsAmid, IsKept, IsSame, CanBeRefused, IsRefused}
 use Rattle.al_engine.specs.Closing.{HasLeft}
+use Rattle.al_engine.specs.Giving.{IsTakenUp}
+use Rattle.al_engine.specs.declared.machine.Machine.{Machine}
+use Rattle.al_history.specs.declared.statement.SqlFault.{SqlFault}
+use Rattle.al_history.specs.declared.statement.Statement.{Statement}
+use Rattle.al_sessions.specs.Blocks.{control_of}
+use Rattle.std.proofs.lemmas.List.{length-map}
 use Rattle.al_engine.proofs.Amid.{still_cancel, still_close, amid_begins, amid_notes, abort_comes, amid_aborts, amid_stops}
 use Rattle.al_engine.proofs.Grants.{HaveCome, settled_then, driven_then}
 use Rattle.al_engine.proofs.LockLists.{LeavesSo, leaves_so, locked_is}
@@ -49,8 +56,8 @@ none_of None e = refl
 none_of (Some block) e = absurd cc
 
 module _ (terms : Terms) (p : Parts) (kept : IsKept terms p) (s : ℕ) (t : Session) where
-  pub got : s < terms.scripts.sessions → t ≡ get_or p.sessions s t → slice_get p.sessions s ≡ Some t
-  got known is = slice_get_read p.sessions terms.scripts.sessions s t (sym kept.sound.count) known is
+  pub known_in : s < terms.scripts.sessions → s < length p.sessions
+  known_in known = rw kept.sound.count known
 
   -- whether it has a step in hand
   pub hand_is : slice_get p.sessions s ≡ Some t → hand (past_of p.journal) s ≡ t.hand
@@ -121,6 +128,7 @@ same_keeps terms p q same kept =
       sound = record {
         legal = rw same.journal sound.legal;
         count = rw same.sessions sound.count;
+        controlled = rw (same.sessions, same.controls) sound.controlled;
         beyond = rw (same.journal, same.sessions) sound.beyond;
         stored = rw (same.journal, same.tables) sound.stored;
         tells = rw (same.journal, same.committed) sound.tells;
@@ -143,44 +151,76 @@ step_light : (o : Option ℕ) (left : ℕ) → of_step o left ≤ of_step None l
 step_light None left = omega arith
 step_light (Some x) left = omega arith
 
-pub give_keeps : (terms : Terms) (p : Parts) (new : Kept) (s block statements : ℕ) (t : Session) → IsKept terms p → slice_get p.sessions s ≡ Some t → t.hand ≡ None → statements ≡ script_length terms block → statements < 2 ^ 32 → s < terms.scripts.sessions → option_map (λ (b : ScriptBlock). b.session) (slice_get terms.scripts.blocks block) ≡ Some s → closed (past_of p.journal) s ≡ false → past_of new ≡ Give s block ∷ past_of p.journal → p.journal.room + of_step None statements ≤ new.room
-    → IsKept terms (record p { journal = new; sessions = slice_set p.sessions s (record t { hand = Some block; done = 0; left = statements; looked = false; wants = None }) })
-give_keeps terms p new s block statements t kept there none count few known of_session open_so is room =
-    let past : Past = past_of p.journal in
-    let sound = kept.sound in
-    let outline = (kept.mirrors s t there).outline in
-    let idle : hand (past_of p.journal) s ≡ None = outline.hand_is ∙ none in
-    let comes = comes_give terms (past_of p.journal) s (doing (past_of p.journal) s) sound.legal refl kept.clear.settled block known of_session open_so idle kept.clear.owed_is in
-    let others : (r : ℕ) → (s == r) ≡ false → doing (Give s block ∷ past_of p.journal) r ≡ doing (past_of p.journal) r = λ r other. others_stay terms (past_of p.journal) s r sound.legal other (Give s block) refl in
-    let u : Session = record t { hand = Some block; done = 0; left = statements; looked = false; wants = None } in
-    let was : light_of t + of_step t.xact statements ≡ light_of (record t { hand = Some block; done = 0; left = statements; looked = false; wants = None }) = rw none (omega arith) in
-    record {
-      sound = record {
-        legal = rw is (comes, sound.legal);
-        count = length_set p.sessions s _ ∙ sound.count;
-        beyond = λ r le.
-            let from : length p.sessions ≤ r = omega (arith, length_set p.sessions s (record t { hand = Some block; done = 0; left = statements; looked = false; wants = None })) in
-            let other : (s == r) ≡ false = other_of r (omega (arith, slice_get_within p.sessions s t there)) in
-            rw (is, other) (sound.beyond r from);
-        stored = rw is sound.stored;
-        tells = rw is sound.tells;
-        marked = marked_set p.sessions s _ _ sound.marked (λ x has. sound.marked s x t there has);
-        table_count = sound.table_count;
-        tied = rw is (record { waits = sound.tied.waits; holds = sound.tied.holds; apart = sound.tied.apart });
-        queues = sound.queues;
-        weighed = rw is sound.weighed;
-        reserved = omega (arith, light_set p.sessions s t (record t { hand = Some block; done = 0; left = statements; looked = false; wants = None }) there, was, step_light t.xact statements, room, sound.reserved);
-      };
-      wants_so = rw is (λ c waits. let other : (s == c.session) ≡ false = idle_asks terms (past_of p.journal) s sound.legal kept.wants_so idle c waits in rw other (kept.wants_so c waits));
-      mirrors = rw is (mirrors_set terms (past_of p.journal) (Give s block ∷ past_of p.journal) p.sessions s _ (λ r u other at. kept.mirrors r u at) others
-          (rw (own_moves (past_of p.journal) s (Give s block) refl) (record {
-            outline = record { hand_is = refl; xact_is = outline.xact_is; block_is = outline.block_is; closed_is = outline.closed_is; wants_is = refl };
-            underway = λ b e. let same : block ≡ b = cc in rw (← same) (record { dones_is = refl; counted = record { all = omega (arith, count); few = omega (arith, few); some = λ e. refl }; none_refused = refl; no_acts = refl; look_is = refl; only_creates = λ e. absurd cc });
-          })));
-      clear = rw is (record { owed_is = refl; settled = kept.clear.settled });
-    } where
-      other_of : (r : ℕ) → s < r → (s == r) ≡ false
-      other_of r lt = ne_eqb s r (λ e. omega arith)
+-- the code's number of statements
+pub controls_length : (terms : Terms) (block : ℕ) → length (controls_at terms block) ≡ script_length terms block
+controls_length terms block = by_block (slice_get terms.scripts.blocks block) where
+  by_script : (script : Result (List Statement) SqlFault) → length (controls_by script) ≡ length_in script
+  by_script (Ok script) = length-map control_of script
+  by_script (Err fault) = refl
+
+  by_block : (o : Option ScriptBlock) → length (controls_for o) ≡ length_at o
+  by_block None = refl
+  by_block (Some b) = by_script b.script
+
+module _ (terms : Terms) (old new : Machine) (s block : ℕ) (t : Session) (kept : IsKept terms (parts_of old)) (there : slice_get old.sessions.list s ≡ Some t) (none : t.hand ≡ None) (taken : IsTakenUp terms old new s block) (known : s < terms.scripts.sessions) (of_session : option_map (λ (b : ScriptBlock). b.session) (slice_get terms.scripts.blocks block) ≡ Some s) (open_so : closed (past_in old) s ≡ false) where
+  abbrev given_past : Past
+  given_past = past_in old
+
+  abbrev held : Session
+  held = given t block (length (controls_at terms block))
+
+  given_idle : hand given_past s ≡ None
+  given_idle = (kept.mirrors s t there).outline.hand_is ∙ none
+
+  give_comes : MayCome terms given_past (Give s block)
+  give_comes = comes_give terms given_past s (doing given_past s) kept.sound.legal refl kept.clear.settled block known of_session open_so given_idle kept.clear.owed_is
+
+  given_list : new.sessions.list ≡ slice_set old.sessions.list s held
+  given_list = taken.given.list t there
+
+  given_others : (r : ℕ) → (s == r) ≡ false → doing (Give s block ∷ given_past) r ≡ doing given_past r
+  given_others r other = others_stay terms given_past s r kept.sound.legal other (Give s block) refl
+
+  given_mirror : IsMirror terms (doing (Give s block ∷ given_past) s) held
+  given_mirror =
+      let outline = (kept.mirrors s t there).outline in
+      rw (own_moves given_past s (Give s block) refl) (record {
+        outline = record { hand_is = refl; xact_is = outline.xact_is; block_is = outline.block_is; closed_is = outline.closed_is; wants_is = refl };
+        underway = λ b e. let same : block ≡ b = cc in rw (← same) (record { dones_is = refl; counted = record { all = controls_length terms block; few = taken.few; some = λ e. refl }; none_refused = refl; no_acts = refl; look_is = refl; only_creates = λ e. absurd cc });
+      })
+
+  given_other : (r : ℕ) → s < r → (s == r) ≡ false
+  given_other r lt = ne_eqb s r (λ e. omega arith)
+
+  give_reserved : light new.sessions.list + length new.locks.locks.waiting ≤ new.journal.room + 0
+  give_reserved =
+      let was : light_of t + of_step t.xact (length (controls_at terms block)) ≡ light_of held = rw none (omega arith) in
+      let set : light new.sessions.list + light_of t ≡ light old.sessions.list + light_of held = rw given_list (light_set old.sessions.list s t held there) in
+      rw taken.locks (omega (arith, set, was, step_light t.xact (length (controls_at terms block)), taken.room))
+
+  pub give_keeps : IsKept terms (parts_of new)
+  give_keeps = record {
+    sound = record {
+      legal = rw taken.past (give_comes, kept.sound.legal);
+      count = rw given_list (length_set old.sessions.list s held ∙ kept.sound.count);
+      controlled = taken.controls kept.sound.controlled;
+      beyond = λ r le.
+          let far : length old.sessions.list ≤ r = rw (given_list, length_set old.sessions.list s held) at le in
+          let other : (s == r) ≡ false = given_other r (omega (arith, slice_get_within old.sessions.list s t there)) in
+          rw (taken.past, other) (kept.sound.beyond r far);
+      stored = rw (taken.past, taken.tables) kept.sound.stored;
+      tells = rw (taken.past, taken.committed) kept.sound.tells;
+      marked = rw (given_list, taken.committed) (marked_set old.sessions.list s _ _ kept.sound.marked (λ x has. kept.sound.marked s x t there has));
+      table_count = rw taken.locks kept.sound.table_count;
+      tied = rw (taken.past, taken.locks) (record { waits = kept.sound.tied.waits; holds = kept.sound.tied.holds; apart = kept.sound.tied.apart });
+      queues = rw taken.locks kept.sound.queues;
+      weighed = rw (taken.past, taken.weight) kept.sound.weighed;
+      reserved = give_reserved;
+    };
+    wants_so = rw taken.past (λ c waits. let other : (s == c.session) ≡ false = idle_asks terms given_past s kept.sound.legal kept.wants_so given_idle c waits in rw other (kept.wants_so c waits));
+    mirrors = rw (taken.past, given_list) (mirrors_set terms given_past (Give s block ∷ given_past) old.sessions.list s _ (λ r u other at. kept.mirrors r u at) given_others given_mirror);
+    clear = rw taken.past (record { owed_is = refl; settled = kept.clear.settled });
+  }
 
 -- ---- a turn
 
@@ -237,7 +277,7 @@ module _ (terms : Terms) (p : Parts) (s block : ℕ) (t : Session) (kept : IsKep
     cancel_amid room =
         let in_hand_so : hand (past_of p.journal) s ≡ Some block = (kept.mirrors s t there).outline.hand_is ∙ busy in
         let comes = comes_cancel terms (past_of p.journal) s (doing (past_of p.journal) s) kept.sound.legal refl kept.clear.settled block in_hand_so kept.clear.owed_is in
-        amid_notes terms p (record p { journal = new }) s 0 t (Cancel s) (amid_begins terms p s kept) there (still_cancel s) refl comes is room refl refl refl refl refl
+        amid_notes terms p (record p { journal = new }) s 0 t (Cancel s) (amid_begins terms p s kept) there (still_cancel s) refl comes is room refl refl refl refl refl (λ t held. held)
 
     pub cancel_refused : CanBeRefused terms (past_of new) s t (causes.Cancelled (length (past_of p.journal)))
     cancel_refused =
@@ -305,6 +345,7 @@ module _ (terms : Terms) (p : Parts) (s : ℕ) (t : Session) (kept : IsKept term
       record {
         after = t;
         there = there;
+        step_is = refl;
         light_is = idle_light;
         amid = rw none (amid_begins terms p s kept);
         settled = kept.clear.settled;
@@ -322,7 +363,7 @@ module _ (terms : Terms) (p : Parts) (s : ℕ) (t : Session) (kept : IsKept term
       }
 
   -- its transaction is aborted
-  module _ (q : Parts) (x : ℕ) (own : t.xact ≡ Some x) (hands_on : HandsOn (released p.locks.locks s) q.locks.locks) (room : q.journal.room + length q.locks.locks.granted + 1 ≡ p.journal.room) (woke : q.sessions ≡ woken q.locks.locks.granted p.sessions) (tables_same : q.tables ≡ p.tables) (count_same : q.locks.sessions ≡ p.locks.sessions) (settled : IsSettled q.locks.locks) (noted : past_of q.journal ≡ locked_by (xact_in p.sessions) q.locks.locks.granted (Abort x ∷ past_of p.journal)) (marked : q.committed ≡ p.committed) (weight_same : q.weight ≡ p.weight) where
+  module _ (q : Parts) (x : ℕ) (own : t.xact ≡ Some x) (hands_on : HandsOn (released p.locks.locks s) q.locks.locks) (room : q.journal.room + length q.locks.locks.granted + 1 ≡ p.journal.room) (woke : q.sessions ≡ woken q.locks.locks.granted p.sessions) (tables_same : q.tables ≡ p.tables) (count_same : q.locks.sessions ≡ p.locks.sessions) (settled : IsSettled q.locks.locks) (noted : past_of q.journal ≡ locked_by (xact_in p.sessions) q.locks.locks.granted (Abort x ∷ past_of p.journal)) (marked : q.committed ≡ p.committed) (weight_same : q.weight ≡ p.weight) (controls_kept : KeepsControls (listed_in p) (listed_in q)) where
     abbrev old : Past
     old = past_of p.journal
 
@@ -341,7 +382,7 @@ module _ (terms : Terms) (p : Parts) (s : ℕ) (t : Session) (kept : IsKept term
     leaves = leaves_so terms (xact_in p.sessions) q.locks.locks.granted (Abort x ∷ old)
 
     amid_then : IsAmid terms q s (0 + 1)
-    amid_then = amid_aborts terms p q s 0 x t (amid_begins terms p s kept) there by_own hands_on room woke tables_same count_same settled weight_same aborts noted marked
+    amid_then = amid_aborts terms p q s 0 x t (amid_begins terms p s kept) there by_own hands_on room woke tables_same count_same settled weight_same controls_kept aborts noted marked
 
     pub left_some : HasLeft terms p q s t
     left_some =
@@ -349,6 +390,7 @@ module _ (terms : Terms) (p : Parts) (s : ℕ) (t : Session) (kept : IsKept term
         record {
           after = calmed (is_granted s q.locks.locks.granted) t;
           there = rw woke (woken_get q.locks.locks.granted p.sessions s ∙ rw there refl);
+          step_is = refl;
           light_is = idle_light;
           amid = rw own amid_then;
           settled = rw noted (settled_then terms (Abort x ∷ old) (xact_in p.sessions) q.locks.locks come settled);
@@ -376,7 +418,7 @@ module _ (terms : Terms) (p : Parts) (s : ℕ) (t : Session) (kept : IsKept term
     abbrev last : Past
     last = past_of q.journal
 
-    abbrev shut : Session
+    abbrev pub shut : Session
     shut = record t { xact = None; closed = true }
 
     wants_none : t.wants ≡ None
@@ -396,11 +438,14 @@ module _ (terms : Terms) (p : Parts) (s : ℕ) (t : Session) (kept : IsKept term
       underway = λ block is. absurd (let wrong : ◌≡◌ {A = Option ℕ} None (Some block) = sym none_in_hand ∙ is in cc);
     })
 
-    pub close_keeps : (new : Kept) → s < terms.scripts.sessions → past_of new ≡ Close s ∷ past_of q.journal → new.room + 1 ≡ q.journal.room → IsKept terms (record q { journal = new; sessions = slice_set q.sessions s (record t { xact = None; closed = true }) })
-    close_keeps new known noted room =
-        let fits : light_of (record t { xact = None; closed = true }) + of_xact t.xact + 1 ≤ light_of left.after = rw none_in_hand (omega (arith, left.light_is)) in
-        amid_stops terms q (record q { journal = new; sessions = slice_set q.sessions s (record t { xact = None; closed = true }) }) s (of_xact t.xact) left.after shut (Close s) left.amid left.there (still_close s) refl (closes known)
-        (unasked_idle terms last s left.amid.sound.legal left.none_open) left.settled refl shut_so (λ x e. absurd cc) fits noted room refl refl refl refl refl
+    pub close_step : HasSameStep (slice_get q.sessions s) shut
+    close_step = rw left.there (rw left.step_is refl)
+
+    pub close_keeps : (m : Parts) → s < terms.scripts.sessions → past_of m.journal ≡ Close s ∷ past_of q.journal → m.journal.room + 1 ≡ q.journal.room → m.sessions ≡ slice_set q.sessions s shut → m.tables ≡ q.tables → m.locks ≡ q.locks → m.committed ≡ q.committed → m.weight ≡ q.weight → KeepsControls (listed_in q) (listed_in m) → IsKept terms m
+    close_keeps m known noted room set tables locks committed weight_is controls_kept =
+        let fits : light_of shut + of_xact t.xact + 1 ≤ light_of left.after = rw none_in_hand (omega (arith, left.light_is)) in
+        amid_stops terms q m s (of_xact t.xact) left.after shut (Close s) left.amid left.there (still_close s) refl (closes known)
+        (unasked_idle terms last s left.amid.sound.legal left.none_open) left.settled refl shut_so (λ x e. absurd cc) fits noted room set tables locks committed weight_is controls_kept
 
     pub close_went : (new : Past) → new ≡ Close s ∷ past_of q.journal → IsClosed (record { terms = terms; past = past_of p.journal }) (record { terms = terms; past = new }) s
     close_went new noted = rw noted (record {

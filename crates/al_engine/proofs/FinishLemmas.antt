@@ -19,8 +19,11 @@ use Rattle.al_history.proofs.Implicit.{implicit_first}
 use Rattle.al_history.proofs.Pasts.{if_same}
 use Rattle.al_history.proofs.Turns.{Went, extends_by}
 use Rattle.al_engine.specs.declared.sessions.Session.{Session}
-use Rattle.al_engine.specs.Sessions.{IsMirror, light_of}
-use Rattle.al_engine.specs.Kept.{Parts, IsKept, CanBeRefused, used_by}
+use Rattle.al_engine.specs.Sessions.{IsMirror, light_of, stopped}
+use Rattle.al_engine.specs.Listed.{KeepsControls, IsAfter}
+use Rattle.al_engine.specs.Kept.{listed_in, Parts, IsKept, CanBeRefused, used_by}
+use Rattle.al_sessions.specs.declared.step.How.TheVariants.{Done}
+use Rattle.al_engine.proofs.AfterLemmas.{ends_after, control_none}
 use Rattle.al_engine.proofs.Amid.{amid_begins, amid_stops, still_end}
 use Rattle.al_engine.proofs.DoneLemmas.{step_three}
 use Rattle.al_engine.proofs.SessionLemmas.{light_at}
@@ -59,16 +62,19 @@ module _ (terms : Terms) (p : Parts) (s : ℕ) (state : Session) (kept : IsKept 
   g : IsGoing terms old s state
   g = going terms p s state kept there can
 
+  none_there : statement_of terms (Some g.block) state.done ≡ None
+  none_there = ap (λ (h : Option ℕ). statement_of terms h state.done) (sym g.busy) ∙ none_left
+
+  none_more : state.left ≡ 0
+  none_more = omega (arith, beyond) where
+    beyond : 0 < state.left → ⊥
+    beyond some =
+        let within = statement_some terms g.block state.done (omega (arith, g.under.counted.all)) in
+        (let wrong : false ≡ true = rw none_there at within in cc)
+
   -- no statement is left, so there was none
   empty : state.done ≡ 0
-  empty = g.under.counted.some (none_more state.left refl) where
-    none_more : (left : ℕ) → state.left ≡ left → state.left ≡ 0
-    none_more left is = omega (arith, beyond) where
-      beyond : 0 < state.left → ⊥
-      beyond some =
-          let within = statement_some terms g.block state.done (omega (arith, g.under.counted.all)) in
-          let none : statement_of terms (Some g.block) state.done ≡ None = ap (λ (h : Option ℕ). statement_of terms h state.done) (sym g.busy) ∙ none_left in
-          (let wrong : false ≡ true = rw none at within in cc)
+  empty = g.under.counted.some none_more
 
   none_implicit : implicit_of old s ≡ None
   none_implicit = none_of (implicit_of old s) (λ x is.
@@ -102,13 +108,16 @@ module _ (terms : Terms) (p : Parts) (s : ℕ) (state : Session) (kept : IsKept 
     in_turn = λ least d. (rw kept.clear.owed_is least, d);
   })
 
-  own_finishes : IsMirror terms (doing (End s ∷ old) s) (record state { hand = None; looked = false; wants = None })
+  pub finish_after : IsAfter Done (listed_in p) s (stopped state state.xact state.block)
+  finish_after = ends_after terms (listed_in p) s g.block state state.wants state.xact state.block None kept.sound.controlled there g.busy (control_none terms g.block state none_there) refl (omega (arith, none_more))
+
+  own_finishes : IsMirror terms (doing (End s ∷ old) s) (stopped state state.xact state.block)
   own_finishes = rw (own_moves old s (End s) refl) (record {
     outline = record { hand_is = refl; xact_is = g.outline.xact_is; block_is = g.outline.block_is; closed_is = g.outline.closed_is; wants_is = refl };
     underway = λ block busy. absurd cc;
   })
 
-  pub finish_kept : (q : Parts) → past_of q.journal ≡ End s ∷ old → q.journal.room + 1 ≡ p.journal.room → q.sessions ≡ slice_set p.sessions s (record state { hand = None; looked = false; wants = None }) → q.tables ≡ p.tables → q.locks ≡ p.locks → q.committed ≡ p.committed → q.weight ≡ p.weight → IsKept terms q
-  finish_kept q noted room set tables locks committed weight_is = amid_stops terms p q s 0 state (record state { hand = None; looked = false; wants = None }) (End s) (amid_begins terms p s kept) there (still_end s) refl end_may g.free kept.clear.settled refl own_finishes (λ x is. is) fits noted room set tables locks committed weight_is where
-    fits : light_of (record state { hand = None; looked = false; wants = None }) + 0 + 1 ≤ light_of state
+  pub finish_kept : (q : Parts) → past_of q.journal ≡ End s ∷ old → q.journal.room + 1 ≡ p.journal.room → q.sessions ≡ slice_set p.sessions s (stopped state state.xact state.block) → q.tables ≡ p.tables → q.locks ≡ p.locks → q.committed ≡ p.committed → q.weight ≡ p.weight → KeepsControls (listed_in p) (listed_in q) → IsKept terms q
+  finish_kept q noted room set tables locks committed weight_is controls_kept = amid_stops terms p q s 0 state (stopped state state.xact state.block) (End s) (amid_begins terms p s kept) there (still_end s) refl end_may g.free kept.clear.settled refl own_finishes (λ x is. is) fits noted room set tables locks committed weight_is controls_kept where
+    fits : light_of (stopped state state.xact state.block) + 0 + 1 ≤ light_of state
     fits = rw g.busy (omega (arith, step_three state.xact state.left))

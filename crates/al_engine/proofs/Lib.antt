@@ -1,4 +1,5 @@
 pub mod ActLemmas
+pub mod AfterLemmas
 pub mod Amid
 pub mod AskLemmas
 pub mod BlockLemmas
@@ -8,6 +9,7 @@ pub mod DoneLemmas
 pub mod EngineLemmas
 pub mod FailedBlocks
 pub mod Grants
+pub mod Joined
 pub mod LockLists
 pub mod Mirrors
 pub mod RefuseLemmas

@@ -19,9 +19,10 @@ use Rattle.al_history.proofs.Pasts.{if_same}
 use Rattle.al_history.proofs.Turns.{Went, tail_ends, tail_goes}
 use Rattle.al_engine.specs.declared.sessions.Session.{Session}
 use Rattle.al_engine.specs.declared.sessions.Block.{Block}
-use Rattle.al_engine.specs.Sessions.{IsMirror, script_length, state_of, light}
-use Rattle.al_engine.specs.Kept.{Parts, IsAmid, IsKept}
-use Rattle.al_engine.specs.Ended.{stopped, onward, passed, IsOver}
+use Rattle.al_engine.specs.Sessions.{IsMirror, script_length, state_of, light, stopped, onward, passed}
+use Rattle.al_engine.specs.Listed.{KeepsControls}
+use Rattle.al_engine.specs.Kept.{listed_in, Parts, IsAmid, IsKept}
+use Rattle.al_engine.specs.Ended.{IsOver}
 use Rattle.al_engine.proofs.Amid.{amid_notes, amid_stops, still_done, still_end}
 use Rattle.al_engine.proofs.SessionLemmas.{light_at}
 use Rattle.al_engine.proofs.TurnLemmas.{statement_beyond, statement_some}
@@ -78,11 +79,11 @@ module _ (terms : Terms) (m : Parts) (s used : ℕ) (t state : Session) (old : P
       underway = λ b busy. absurd cc;
     }
 
-    module _ (m1 q : Parts) (block : Block) (is : state_of block ≡ block_after reply (state_of state.block)) (noted : past_of m1.journal ≡ Done s reply ∷ mid) (room : m1.journal.room + 1 ≡ m.journal.room) (sessions : m1.sessions ≡ m.sessions) (tables : m1.tables ≡ m.tables) (locks : m1.locks ≡ m.locks) (committed : m1.committed ≡ m.committed) (weight_is : m1.weight ≡ m.weight) where
-      pub over_kept : past_of q.journal ≡ End s ∷ past_of m1.journal → q.journal.room + 1 ≡ m1.journal.room → q.sessions ≡ slice_set m1.sessions s (stopped state xact block) → q.tables ≡ m1.tables → q.locks ≡ m1.locks → q.committed ≡ m1.committed → q.weight ≡ m1.weight → IsKept terms q
-      over_kept noted_end room_end set tables_end locks_end committed_end weight_end =
-          let amid : IsAmid terms m1 s (used + 1) = amid_notes terms m m1 s used t (Done s reply) over.amid over.there (still_done s reply) refl over.comes noted room sessions tables locks committed weight_is in
-          amid_stops terms m1 q s (used + 1) t (stopped state xact block) (End s) amid (rw sessions over.there) (still_end s) refl (rw noted end_comes) (rw noted over.unasked) (rw noted over.settled) refl (rw noted (own_stops block is)) over.its (omega (arith, over.fits block)) noted_end room_end set tables_end locks_end committed_end weight_end
+    module _ (m1 q : Parts) (block : Block) (is : state_of block ≡ block_after reply (state_of state.block)) (noted : past_of m1.journal ≡ Done s reply ∷ mid) (room : m1.journal.room + 1 ≡ m.journal.room) (sessions : m1.sessions ≡ m.sessions) (tables : m1.tables ≡ m.tables) (locks : m1.locks ≡ m.locks) (committed : m1.committed ≡ m.committed) (weight_is : m1.weight ≡ m.weight) (controls_first : KeepsControls (listed_in m) (listed_in m1)) where
+      pub over_kept : past_of q.journal ≡ End s ∷ past_of m1.journal → q.journal.room + 1 ≡ m1.journal.room → q.sessions ≡ slice_set m1.sessions s (stopped state xact block) → q.tables ≡ m1.tables → q.locks ≡ m1.locks → q.committed ≡ m1.committed → q.weight ≡ m1.weight → KeepsControls (listed_in m1) (listed_in q) → IsKept terms q
+      over_kept noted_end room_end set tables_end locks_end committed_end weight_end controls_end =
+          let amid : IsAmid terms m1 s (used + 1) = amid_notes terms m m1 s used t (Done s reply) over.amid over.there (still_done s reply) refl over.comes noted room sessions tables locks committed weight_is controls_first in
+          amid_stops terms m1 q s (used + 1) t (stopped state xact block) (End s) amid (rw sessions over.there) (still_end s) refl (rw noted end_comes) (rw noted over.unasked) (rw noted over.settled) refl (rw noted (own_stops block is)) over.its (omega (arith, over.fits block)) noted_end room_end set tables_end locks_end committed_end weight_end controls_end
 
   -- ---- there is a next one
   module _ (more : 1 < state.left) where
@@ -119,9 +120,9 @@ module _ (terms : Terms) (m : Parts) (s used : ℕ) (t state : Session) (old : P
           });
     }
 
-    pub on_kept : (q : Parts) (block : Block) → state_of block ≡ block_after reply (state_of state.block) → past_of q.journal ≡ Done s reply ∷ mid → q.journal.room + 1 ≡ m.journal.room → q.sessions ≡ slice_set m.sessions s (onward state xact block) → q.tables ≡ m.tables → q.locks ≡ m.locks → q.committed ≡ m.committed → q.weight ≡ m.weight → IsKept terms q
-    on_kept q block is noted room set tables locks committed weight_is =
-        amid_stops terms m q s used t (onward state xact block) (Done s reply) over.amid over.there (still_done s reply) refl over.comes over.unasked over.settled none_owed (own_on block is) over.its (over.fits_on block more) noted room set tables locks committed weight_is
+    pub on_kept : (q : Parts) (block : Block) → state_of block ≡ block_after reply (state_of state.block) → past_of q.journal ≡ Done s reply ∷ mid → q.journal.room + 1 ≡ m.journal.room → q.sessions ≡ slice_set m.sessions s (onward state xact block) → q.tables ≡ m.tables → q.locks ≡ m.locks → q.committed ≡ m.committed → q.weight ≡ m.weight → KeepsControls (listed_in m) (listed_in q) → IsKept terms q
+    on_kept q block is noted room set tables locks committed weight_is controls_kept =
+        amid_stops terms m q s used t (onward state xact block) (Done s reply) over.amid over.there (still_done s reply) refl over.comes over.unasked over.settled none_owed (own_on block is) over.its (over.fits_on block more) noted room set tables locks committed weight_is controls_kept
 
   -- ---- either
 
@@ -137,9 +138,9 @@ module _ (terms : Terms) (m : Parts) (s used : ℕ) (t state : Session) (old : P
     by_left true is noted = on_went (ltb-true 1 state.left is) new noted
     by_left false is noted = over_went (ltb-false 1 state.left is) new noted
 
-  pub passed_kept : (m1 q : Parts) (u : Session) (block : Block) → state_of block ≡ block_after reply (state_of state.block) → u ≡ record state { xact = xact; block = block } → past_of m1.journal ≡ Done s reply ∷ mid → m1.journal.room + 1 ≡ m.journal.room → m1.sessions ≡ m.sessions → m1.tables ≡ m.tables → m1.locks ≡ m.locks → m1.committed ≡ m.committed → m1.weight ≡ m.weight
-      → past_of q.journal ≡ cond (nat_lt 1 u.left) (past_of m1.journal) (End s ∷ past_of m1.journal) → q.journal.room + cond (nat_lt 1 u.left) 0 1 ≡ m1.journal.room → q.sessions ≡ slice_set m1.sessions s (passed u) → q.tables ≡ m1.tables → q.locks ≡ m1.locks → q.committed ≡ m1.committed → q.weight ≡ m1.weight → IsKept terms q
-  passed_kept m1 q u block is same noted room sessions tables locks committed weight_is noted_end room_end set tables_end locks_end committed_end weight_end = by_left (nat_lt 1 state.left) refl (rw same at noted_end) (rw same at room_end) (rw same at set) where
+  pub passed_kept : (m1 q : Parts) (u : Session) (block : Block) → state_of block ≡ block_after reply (state_of state.block) → u ≡ record state { xact = xact; block = block } → past_of m1.journal ≡ Done s reply ∷ mid → m1.journal.room + 1 ≡ m.journal.room → m1.sessions ≡ m.sessions → m1.tables ≡ m.tables → m1.locks ≡ m.locks → m1.committed ≡ m.committed → m1.weight ≡ m.weight → KeepsControls (listed_in m) (listed_in m1)
+      → past_of q.journal ≡ cond (nat_lt 1 u.left) (past_of m1.journal) (End s ∷ past_of m1.journal) → q.journal.room + cond (nat_lt 1 u.left) 0 1 ≡ m1.journal.room → q.sessions ≡ slice_set m1.sessions s (passed u) → q.tables ≡ m1.tables → q.locks ≡ m1.locks → q.committed ≡ m1.committed → q.weight ≡ m1.weight → KeepsControls (listed_in m1) (listed_in q) → IsKept terms q
+  passed_kept m1 q u block is same noted room sessions tables locks committed weight_is controls_first noted_end room_end set tables_end locks_end committed_end weight_end controls_end = by_left (nat_lt 1 state.left) refl (rw same at noted_end) (rw same at room_end) (rw same at set) where
     by_left : (b : Bool) → nat_lt 1 state.left ≡ b → past_of q.journal ≡ cond b (past_of m1.journal) (End s ∷ past_of m1.journal) → q.journal.room + cond b 0 1 ≡ m1.journal.room → q.sessions ≡ slice_set m1.sessions s (cond b (onward state xact block) (stopped state xact block)) → IsKept terms q
-    by_left true left_so noted_on room_on set_on = on_kept (ltb-true 1 state.left left_so) q block is (noted_on ∙ noted) (omega (arith, room_on, room)) (rw sessions at set_on) (tables_end ∙ tables) (locks_end ∙ locks) (committed_end ∙ committed) (weight_end ∙ weight_is)
-    by_left false left_so noted_on room_on set_on = over_kept (ltb-false 1 state.left left_so) m1 q block is noted room sessions tables locks committed weight_is noted_on room_on set_on tables_end locks_end committed_end weight_end
+    by_left true left_so noted_on room_on set_on = on_kept (ltb-true 1 state.left left_so) q block is (noted_on ∙ noted) (omega (arith, room_on, room)) (rw sessions at set_on) (tables_end ∙ tables) (locks_end ∙ locks) (committed_end ∙ committed) (weight_end ∙ weight_is) (λ t held. controls_end t (controls_first t held))
+    by_left false left_so noted_on room_on set_on = over_kept (ltb-false 1 state.left left_so) m1 q block is noted room sessions tables locks committed weight_is controls_first noted_on room_on set_on tables_end locks_end committed_end weight_end controls_end

@@ -20,9 +20,10 @@ use Rattle.al_queue.specs.Settled.{IsSettled, HandsOn}
 use Rattle.al_engine.specs.declared.sessions.Block.{Block}
 use Rattle.al_engine.specs.declared.sessions.Session.{Session}
 use Rattle.al_engine.specs.LockTie.{locked_by, locks_of, is_granted}
-use Rattle.al_engine.specs.Sessions.{xact_in, woken, state_of, IsMirror, light_of}
+use Rattle.al_engine.specs.Sessions.{stopped, xact_in, woken, state_of, IsMirror, light_of}
 use Rattle.al_engine.specs.Ran.{IsAborted}
-use Rattle.al_engine.specs.Kept.{Parts, IsAmid, IsKept, CanBeRefused, IsRefused, used_by}
+use Rattle.al_engine.specs.Listed.{KeepsControls}
+use Rattle.al_engine.specs.Kept.{listed_in, Parts, IsAmid, IsKept, CanBeRefused, IsRefused, used_by}
 use Rattle.al_engine.proofs.Amid.{still_refuse, still_end, amid_notes, abort_comes, amid_aborts, amid_stops}
 use Rattle.al_engine.proofs.Grants.{HaveCome, settled_then}
 use Rattle.al_engine.proofs.LockLists.{LeavesSo, leaves_so, locked_is}
@@ -52,6 +53,7 @@ pub record IsRefusing (terms : Terms) (old : Past) (m : Parts) (s : ℕ) (t : Se
   pub amid : IsAmid terms m s used
   pub now : Session
   pub there : slice_get m.sessions s ≡ Some now
+  pub like : now ≡ record t { wants = now.wants }
   pub fits : cond t.closed 0 1 + used + 1 ≤ light_of now
   pub state : doing (past_of m.journal) s ≡ broken (doing old s) (length old) None
   pub settled : is_settled (past_of m.journal) ≡ true
@@ -64,13 +66,13 @@ module _ (terms : Terms) (p : Parts) (j : Kept) (s block : ℕ) (t : Session) (c
   old = past_of p.journal
 
   abbrev a : Parts
-  a = record { journal = j; sessions = p.sessions; tables = p.tables; locks = p.locks; committed = p.committed; weight = p.weight }
+  a = record { journal = j; sessions = p.sessions; controls = p.controls; tables = p.tables; locks = p.locks; committed = p.committed; weight = p.weight }
 
   refuse_may : MayCome terms old (Refuse s cause)
   refuse_may = comes_refuse terms old s (doing old s) amid.sound.legal refl can.settled cause can.first_true can.follows can.timely
 
   amid_refused : IsAmid terms a s (used_by cause + 1)
-  amid_refused = amid_notes terms p a s (used_by cause) t (Refuse s cause) amid there (still_refuse s cause) refl refuse_may noted noted_room refl refl refl refl refl
+  amid_refused = amid_notes terms p a s (used_by cause) t (Refuse s cause) amid there (still_refuse s cause) refl refuse_may noted noted_room refl refl refl refl refl (λ t held. held)
 
   state_refused : doing (past_of j) s ≡ broken (doing old s) (length old) t.xact
   state_refused = subst (λ (past : Past). doing past s ≡ broken (doing old s) (length old) t.xact) (sym noted) (own_moves old s (Refuse s cause) refl ∙ rw can.xact_is refl)
@@ -90,6 +92,7 @@ module _ (terms : Terms) (p : Parts) (j : Kept) (s block : ℕ) (t : Session) (c
     used = used_by cause + 1;
     amid = amid_refused;
     now = t;
+    like = refl;
     there = there;
     fits = rw (none, busy) (omega (arith, used_few cause));
     state = state_refused ∙ rw none refl;
@@ -110,7 +113,7 @@ module _ (terms : Terms) (p : Parts) (j : Kept) (s block : ℕ) (t : Session) (c
     abort_may : MayCome terms (past_of j) (Abort x)
     abort_may = comes_abort terms (past_of j) s (broken (doing old s) (length old) t.xact) amid_refused.sound.legal state_refused settled_refused x by (inl (inl refl)) (rw owes_abort refl) (rw (can.hand_is, busy, owes_abort) refl)
 
-    module _ (m : Parts) (a_noted : past_of m.journal ≡ locked_by (xact_in p.sessions) m.locks.locks.granted (Abort x ∷ past_of j)) (a_room : m.journal.room + length m.locks.locks.granted + 1 ≡ j.room) (a_woke : m.sessions ≡ woken m.locks.locks.granted p.sessions) (a_tables : m.tables ≡ p.tables) (a_count : m.locks.sessions ≡ p.locks.sessions) (a_committed : m.committed ≡ p.committed) (a_settled : IsSettled m.locks.locks) (a_hands : HandsOn (released p.locks.locks s) m.locks.locks) (a_weight : m.weight ≡ p.weight) where
+    module _ (m : Parts) (a_noted : past_of m.journal ≡ locked_by (xact_in p.sessions) m.locks.locks.granted (Abort x ∷ past_of j)) (a_room : m.journal.room + length m.locks.locks.granted + 1 ≡ j.room) (a_woke : m.sessions ≡ woken m.locks.locks.granted p.sessions) (a_tables : m.tables ≡ p.tables) (a_count : m.locks.sessions ≡ p.locks.sessions) (a_committed : m.committed ≡ p.committed) (a_settled : IsSettled m.locks.locks) (a_hands : HandsOn (released p.locks.locks s) m.locks.locks) (a_weight : m.weight ≡ p.weight) (a_controls : KeepsControls (listed_in p) (listed_in m)) where
       come : HaveCome terms (xact_in p.sessions) m.locks.locks.granted (Abort x ∷ past_of j) m.locks.locks
       come = abort_comes terms a m s (used_by cause + 1) x t amid_refused there by a_hands abort_may
 
@@ -140,8 +143,9 @@ module _ (terms : Terms) (p : Parts) (j : Kept) (s block : ℕ) (t : Session) (c
       pub refusing_open : IsRefusing terms old m s t cause
       refusing_open = record {
         used = used_by cause + 1 + 1;
-        amid = amid_aborts terms a m s (used_by cause + 1) x t amid_refused there by a_hands a_room a_woke a_tables a_count a_settled a_weight abort_may a_noted a_committed;
+        amid = amid_aborts terms a m s (used_by cause + 1) x t amid_refused there by a_hands a_room a_woke a_tables a_count a_settled a_weight a_controls abort_may a_noted a_committed;
         now = calmed calms t;
+        like = refl;
         there = rw a_woke (woken_get m.locks.locks.granted p.sessions s ∙ rw there refl);
         fits = rw (own, busy) (omega (arith, used_few cause));
         state = state_aborted;
@@ -162,9 +166,9 @@ refusing_room terms old m s t cause r = omega (arith, r.fits, light_at m.session
 
 -- its record then
 abbrev pub refused_state : Session → Block → Session
-refused_state t b = record t { hand = None; xact = None; block = b; looked = false; wants = None }
+refused_state t b = stopped t None b
 
-module _ (terms : Terms) (old : Past) (m q : Parts) (s block : ℕ) (t : Session) (cause : Cause) (b : Block) (r : IsRefusing terms old m s t cause) (can : CanBeRefused terms old s t cause) (busy : t.hand ≡ Some block) (fails : state_of b ≡ failed_at (length old) (state_of t.block)) (e_noted : past_of q.journal ≡ End s ∷ past_of m.journal) (e_room : q.journal.room + 1 ≡ m.journal.room) (e_set : q.sessions ≡ slice_set m.sessions s (refused_state t b)) (e_tables : q.tables ≡ m.tables) (e_locks : q.locks ≡ m.locks) (e_committed : q.committed ≡ m.committed) (e_weight : q.weight ≡ m.weight) where
+module _ (terms : Terms) (old : Past) (m q : Parts) (s block : ℕ) (t : Session) (cause : Cause) (b : Block) (r : IsRefusing terms old m s t cause) (can : CanBeRefused terms old s t cause) (busy : t.hand ≡ Some block) (fails : state_of b ≡ failed_at (length old) (state_of t.block)) (e_noted : past_of q.journal ≡ End s ∷ past_of m.journal) (e_room : q.journal.room + 1 ≡ m.journal.room) (e_set : q.sessions ≡ slice_set m.sessions s (refused_state t b)) (e_tables : q.tables ≡ m.tables) (e_locks : q.locks ≡ m.locks) (e_committed : q.committed ≡ m.committed) (e_weight : q.weight ≡ m.weight) (e_controls : KeepsControls (listed_in m) (listed_in q)) where
   ends_may : MayCome terms (past_of m.journal) (End s)
   ends_may = comes_end terms (past_of m.journal) s (broken (doing old s) (length old) None) r.amid.sound.legal r.state r.settled block (can.hand_is ∙ busy) (inr refl) (none_implicit (failed_at (length old) (block_state old s))) (rw r.owes refl) (rw r.owes refl)
 
@@ -177,7 +181,7 @@ module _ (terms : Terms) (old : Past) (m q : Parts) (s block : ℕ) (t : Session
       })
 
   pub refused_kept : IsKept terms q
-  refused_kept = amid_stops terms m q s r.used r.now (refused_state t b) (End s) r.amid r.there (still_end s) refl ends_may (unasked_idle terms (past_of m.journal) s r.amid.sound.legal (ap (λ (d : Doing). d.xact) r.state)) r.settled refl own_mirror (λ y its. absurd cc) (omega (arith, r.fits)) e_noted e_room e_set e_tables e_locks e_committed e_weight
+  refused_kept = amid_stops terms m q s r.used r.now (refused_state t b) (End s) r.amid r.there (still_end s) refl ends_may (unasked_idle terms (past_of m.journal) s r.amid.sound.legal (ap (λ (d : Doing). d.xact) r.state)) r.settled refl own_mirror (λ y its. absurd cc) (omega (arith, r.fits)) e_noted e_room e_set e_tables e_locks e_committed e_weight e_controls
 
   pub refused_exact : IsRefused old (past_of q.journal) s t.xact cause
   refused_exact = record { aborted = past_of m.journal; is_aborted = r.aborted; is = e_noted }

@@ -28,7 +28,8 @@ use Rattle.al_history.proofs.Doings.{Doing, doing, acted, moved, IsXact, IsBy, o
 use Rattle.al_history.proofs.Turns.{Stage, Went, stage_begins, stage_on, step_look, extends_on}
 use Rattle.al_history.proofs.Xacts.{xact_is, turn}
 use Rattle.al_engine.specs.declared.sessions.Session.{Session}
-use Rattle.al_engine.specs.Kept.{Parts, IsAmid, IsClear, IsKept, CanBeDone, CanBeRefused, over_by}
+use Rattle.al_engine.specs.Listed.{Listed}
+use Rattle.al_engine.specs.Kept.{listed_in, Parts, IsAmid, IsClear, IsKept, CanBeDone, CanBeRefused, over_by}
 use Rattle.al_engine.specs.LockTie.{asks, IsTied}
 use Rattle.al_engine.specs.Sessions.{IsMirror, IsUnderway, IsOutlined, MakesTable, state_of, IsCounted}
 use Rattle.al_engine.specs.Stored.{all_kept, seen_by, TellsCommitted}
@@ -235,7 +236,7 @@ module _ (terms : Terms) (past : Past) (s : ℕ) (t : Session) (x : ℕ) (statem
 
 -- its entries have left all parts but the journal and the tables as they were, and what was reserved is there still
 pub record StaysBut (p q : Parts) : Type 0 where
-  pub sessions : q.sessions ≡ p.sessions
+  pub same : listed_in q ≡ listed_in p
   pub locks : q.locks ≡ p.locks
   pub committed : q.committed ≡ p.committed
   pub room : p.journal.room ≤ q.journal.room
@@ -243,12 +244,15 @@ pub record StaysBut (p q : Parts) : Type 0 where
   pub waiting_same : waiting (past_of q.journal) ≡ waiting (past_of p.journal)
   pub weighed : q.weight ≡ weight (past_of q.journal)
 
-pub stays : (p q : Parts) (past : Past) → past_of q.journal ≡ past → q.sessions ≡ p.sessions → q.locks ≡ p.locks → q.committed ≡ p.committed → p.journal.room ≤ q.journal.room → held past ≡ held (past_of p.journal) → waiting past ≡ waiting (past_of p.journal) → q.weight ≡ weight past → StaysBut p q
-stays p q past is sessions locks committed room held_same waiting_same weighed = record { sessions = sessions; locks = locks; committed = committed; room = room; held_same = rw is held_same; waiting_same = rw is waiting_same; weighed = rw is weighed }
+pub stays : (p q : Parts) (past : Past) → past_of q.journal ≡ past → listed_in q ≡ listed_in p → q.locks ≡ p.locks → q.committed ≡ p.committed → p.journal.room ≤ q.journal.room → held past ≡ held (past_of p.journal) → waiting past ≡ waiting (past_of p.journal) → q.weight ≡ weight past → StaysBut p q
+stays p q past is sessions locks committed room held_same waiting_same weighed = record { same = sessions; locks = locks; committed = committed; room = room; held_same = rw is held_same; waiting_same = rw is waiting_same; weighed = rw is weighed }
 
 module _ (terms : Terms) (p q : Parts) (s rows : ℕ) (kept : IsKept terms p) (st : Stage terms s (past_of p.journal) (past_of q.journal) rows) (still : StaysBut p q) where
   tells_still : TellsCommitted (past_of q.journal) q.committed
   tells_still y = rw (still.committed, st.fates y) (kept.sound.tells y)
+
+  sessions_still : q.sessions ≡ p.sessions
+  sessions_still = ap (λ (l : Listed). l.list) still.same
 
   tied_still : IsTied (past_of q.journal) q.locks.locks
   tied_still = rw still.locks (record { waits = rw still.waiting_same kept.sound.tied.waits; holds = λ test. rw still.held_same (kept.sound.tied.holds test); apart = rw still.waiting_same kept.sound.tied.apart })
@@ -257,19 +261,20 @@ module _ (terms : Terms) (p q : Parts) (s rows : ℕ) (kept : IsKept terms p) (s
   amid_after stored = record {
     sound = record {
       legal = st.legal;
-      count = rw still.sessions kept.sound.count;
-      beyond = λ r le. st.hands r ∙ kept.sound.beyond r (rw still.sessions at le);
+      count = rw sessions_still kept.sound.count;
+      controlled = rw still.same kept.sound.controlled;
+      beyond = λ r le. st.hands r ∙ kept.sound.beyond r (rw sessions_still at le);
       stored = stored;
       tells = tells_still;
-      marked = λ r y u there own. rw still.committed (kept.sound.marked r y u (rw still.sessions at there) own);
+      marked = λ r y u there own. rw still.committed (kept.sound.marked r y u (rw sessions_still at there) own);
       table_count = rw still.locks kept.sound.table_count;
       tied = tied_still;
       queues = rw still.locks kept.sound.queues;
       weighed = still.weighed;
-      reserved = rw (still.sessions, still.locks) (omega (arith, kept.sound.reserved, still.room));
+      reserved = rw (sessions_still, still.locks) (omega (arith, kept.sound.reserved, still.room));
     };
     others_want = λ c there other. ap (λ (d : Doing). d.wants) (st.others c.session (turn c.session s other)) ∙ kept.wants_so c (rw still.waiting_same at there);
-    others = λ r u other there. rw (st.others r other) (kept.mirrors r u (rw still.sessions at there));
+    others = λ r u other there. rw (st.others r other) (kept.mirrors r u (rw sessions_still at there));
   }
 
   pub clear_after : IsClear terms (past_of q.journal)

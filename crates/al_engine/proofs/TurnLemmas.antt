@@ -25,7 +25,8 @@ use Rattle.al_engine.specs.declared.sessions.Session.{Session}
 use Rattle.al_engine.specs.LockTie.{asks}
 use Rattle.al_engine.specs.Sessions.{IsUnderway, IsOutlined, IsMirror, state_of, light_of, light, IsCounted, length_in, length_at, script_length}
 use Rattle.al_engine.specs.Stored.{TellsCommitted}
-use Rattle.al_engine.specs.Kept.{Parts, IsSound, IsKept}
+use Rattle.al_engine.specs.Listed.{KeepsControls}
+use Rattle.al_engine.specs.Kept.{listed_in, Parts, IsSound, IsKept}
 use Rattle.al_engine.proofs.SessionLemmas.{light_at, light_set, got_set, length_set}
 use Rattle.al_engine.proofs.StoredLemmas.{tells_push}
 use Rattle.al_engine.proofs.Wanted.{free_asks, others_still, wants_all}
@@ -183,7 +184,7 @@ module _ (terms : Terms) (p : Parts) (s x : ℕ) (state : Session) (kept : IsKep
   pub begins_went : (new : Past) → new ≡ e ∷ old → Went terms s old new false (driver old) (IsLeast old s)
   begins_went new noted = rw noted (stage_went terms s old (e ∷ old) 0 (stage_on terms s old old 0 0 e (stage_begins terms s old kept.sound.legal kept.clear.settled kept.clear.owed_is) (step_start s levels.ReadCommitted) refl start_comes kept.clear.settled refl goes_then (omega arith)) (omega arith) (omega arith))
 
-  module _ (q : Parts) (noted : past_of q.journal ≡ e ∷ old) (at : x ≡ length old) (room : q.journal.room + 1 ≡ p.journal.room) (sessions : q.sessions ≡ slice_set p.sessions s (begun x state)) (tables : q.tables ≡ p.tables) (locks : q.locks ≡ p.locks) (marks : q.committed ≡ p.committed ++ replicate (x + 1 - length p.committed) false) (weight_same : q.weight ≡ p.weight) where
+  module _ (q : Parts) (noted : past_of q.journal ≡ e ∷ old) (at : x ≡ length old) (room : q.journal.room + 1 ≡ p.journal.room) (sessions : q.sessions ≡ slice_set p.sessions s (begun x state)) (tables : q.tables ≡ p.tables) (locks : q.locks ≡ p.locks) (marks : q.committed ≡ p.committed ++ replicate (x + 1 - length p.committed) false) (weight_same : q.weight ≡ p.weight) (controls_kept : KeepsControls (listed_in p) (listed_in q)) where
     length_so : length q.sessions ≡ length p.sessions
     length_so = rw sessions (length_set p.sessions s (begun x state))
 
@@ -231,6 +232,7 @@ module _ (terms : Terms) (p : Parts) (s x : ℕ) (state : Session) (kept : IsKep
     sound_so = record {
       legal = rw noted (start_comes, kept.sound.legal);
       count = length_so ∙ kept.sound.count;
+      controlled = controls_kept terms kept.sound.controlled;
       beyond = λ r le. rw noted (kept.sound.beyond r (let n : length q.sessions ≡ length p.sessions = length_so in omega arith));
       stored = rw (tables, noted) kept.sound.stored;
       tells = rw (noted, marks) (tells_more old p.committed (x + 1 - length p.committed) kept.sound.tells);

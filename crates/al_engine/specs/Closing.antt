@@ -18,6 +18,7 @@ use Rattle.al_engine.specs.Kept.{Parts, IsAmid}
 pub record HasLeft (terms : Terms) (p q : Parts) (s : ℕ) (t : Session) : Type 0 where
   pub after : Session
   pub there : slice_get q.sessions s ≡ Some after
+  pub step_is : after ≡ record t { wants = after.wants }
   pub light_is : light_of after ≡ 1 + of_xact t.xact
   pub amid : IsAmid terms q s (of_xact t.xact)
   pub settled : is_settled (past_of q.journal) ≡ true

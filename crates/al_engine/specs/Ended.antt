@@ -15,7 +15,7 @@ use Rattle.al_history.proofs.Turns.{Tail}
 use Rattle.al_engine.specs.declared.sessions.Session.{Session}
 use Rattle.al_engine.specs.declared.sessions.Block.{Block}
 use Rattle.al_engine.specs.LockTie.{asks}
-use Rattle.al_engine.specs.Sessions.{IsCounted, state_of, light_of}
+use Rattle.al_engine.specs.Sessions.{IsCounted, state_of, light_of, stopped, onward}
 use Rattle.al_engine.specs.Kept.{Parts, IsAmid}
 
 -- what the session is doing by then: the transaction that is open is no implicit one once the statement is done
@@ -31,22 +31,11 @@ pub record IsLast (terms : Terms) (past : Past) (s : ℕ) (state : Session) (xac
   pub closed_is : closed past s ≡ state.closed
   pub none_left : state.left ≤ 1 → if_no_block (block_after reply (state_of state.block)) xact ≡ None
 
--- what is kept of it after its step
-abbrev pub stopped : Session → Option ℕ → Block → Session
-stopped state xact block = record { hand = None; done = state.done; left = state.left; xact = xact; block = block; looked = false; wants = None; closed = state.closed }
-
--- what is kept of it where its step goes on with the next statement
-abbrev pub onward : Session → Option ℕ → Block → Session
-onward state xact block = record { hand = state.hand; done = state.done + 1; left = state.left - 1; xact = xact; block = block; looked = false; wants = None; closed = state.closed }
-
--- what is kept of a session whose statement is done: its step goes on with the next one, or ends
-abbrev pub passed : Session → Session
-passed state = cond (nat_lt 1 state.left) (onward state state.xact state.block) (record state { hand = None; looked = false; wants = None })
-
 -- in the middle of a call that began at an old past, the statement can be done with this reply
 pub record IsOver (terms : Terms) (m : Parts) (s used : ℕ) (t state : Session) (old : Past) (xact : Option ℕ) (reply : Reply) : Type 0 where
   pub amid : IsAmid terms m s used
   pub there : slice_get m.sessions s ≡ Some t
+  pub like : t ≡ record state { wants = t.wants }
   pub is_last : IsLast terms (past_of m.journal) s state xact reply
   pub settled : is_settled (past_of m.journal) ≡ true
   pub unasked : asks s (waiting (past_of m.journal)) ≡ false

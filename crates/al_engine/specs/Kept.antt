@@ -27,28 +27,35 @@ use Rattle.al_history.specs.Rules.{Answers}
 use Rattle.al_engine.specs.Ran.{IsAborted}
 use Rattle.al_engine.specs.LockTie.{IsTied, WantsSo, OthersWant}
 use Rattle.al_engine.specs.Sessions.{IsMirror, IsOutlined, IsCounted, state_of, light}
+use Rattle.al_sessions.specs.declared.block.Control.{Control}
+use Rattle.al_engine.specs.Listed.{Listed, AreControlled}
 use Rattle.al_engine.specs.Stored.{all_kept, TellsCommitted}
 
 -- The parts of a machine, as contracts see them.
 pub record Parts : Type 0 where
   pub journal : Kept
   pub sessions : List Session
+  pub controls : List (List Control)
   pub tables : List StoredTable
   pub locks : KeptLocks
   pub committed : List Bool
   pub weight : ℕ
 
 abbrev pub parts_of : Machine → Parts
-parts_of m = record { journal = m.journal; sessions = m.sessions.items; tables = m.tables.items; locks = m.locks; committed = m.committed.items; weight = m.weight }
+parts_of m = record { journal = m.journal; sessions = m.sessions.list; controls = m.sessions.controls; tables = m.tables.items; locks = m.locks; committed = m.committed.items; weight = m.weight }
+
+abbrev pub listed_in : Parts → Listed
+listed_in p = record { list = p.sessions; controls = p.controls }
 
 abbrev pub past_in : Machine → Past
 past_in m = past_of m.journal
 
--- The journal is legal so far, and each part but the records of the sessions is what it stands for; so many light entries more than
+-- The journal is legal so far, each step in hand is of its block, and each part but the records of the sessions is what it stands for; so many light entries more than
 -- the sessions' records say have been used.
 pub record IsSound (terms : Terms) (p : Parts) (used : ℕ) : Type 0 where
   pub legal : Legal terms (past_of p.journal)
   pub count : length p.sessions ≡ terms.scripts.sessions
+  pub controlled : AreControlled terms (listed_in p)
   pub beyond : (r : ℕ) → length p.sessions ≤ r → hand (past_of p.journal) r ≡ None
   pub stored : all_kept p.tables ≡ store terms (past_of p.journal)
   pub tells : TellsCommitted (past_of p.journal) p.committed
@@ -82,6 +89,7 @@ pub record IsSame (old new : Parts) : Type 0 where
   pub journal : past_of new.journal ≡ past_of old.journal
   pub room : old.journal.room ≤ new.journal.room
   pub sessions : new.sessions ≡ old.sessions
+  pub controls : new.controls ≡ old.controls
   pub tables : new.tables ≡ old.tables
   pub locks : new.locks ≡ old.locks
   pub committed : new.committed ≡ old.committed

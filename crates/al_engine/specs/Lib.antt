@@ -1,9 +1,11 @@
 pub mod Ran
 pub mod Stored
 pub mod Sessions
+pub mod Listed
 pub mod LockTie
 pub mod Kept
 pub mod Using
 pub mod Ended
 pub mod Closing
 pub mod Creating
+pub mod Giving

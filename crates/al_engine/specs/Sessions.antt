@@ -1,5 +1,5 @@
 -- What is kept of the sessions, and what it stands for.
-use Rattle.std.specs.Prelude.{◌≡◌, ℕ, ◌+◌, ◌*◌, ◌^◌, max, length, Result, Ok, Err, ◌<◌, ◌&&◌, Bool, true, false, not, cond, List, [], ◌∷◌, map, slice_get, slice_set, Option, Some, None, is_some, option_and_then, unwrap_or}
+use Rattle.std.specs.Prelude.{◌≡◌, ℕ, ◌+◌, ◌-◌, ◌*◌, ◌^◌, max, length, Result, Ok, Err, ◌<◌, ◌&&◌, Bool, true, false, not, cond, nat_lt, List, [], ◌∷◌, map, slice_get, slice_set, Option, Some, None, is_some, option_and_then, unwrap_or}
 use Rattle.std.specs.List.{list_any}
 use Rattle.al_history.specs.declared.entry.Want.{Want}
 use Rattle.al_history.specs.declared.entry.Want.TheVariants as wants
@@ -70,6 +70,22 @@ pub record IsOutlined (d : Doing) (t : Session) : Type 0 where
 pub record IsMirror (terms : Terms) (d : Doing) (t : Session) : Type 0 where
   pub outline : IsOutlined d t
   pub underway : (block : ℕ) → t.hand ≡ Some block → IsUnderway terms d block t.done t.left t.looked
+
+-- what is kept of a session that is given a block of so many statements
+abbrev pub given : Session → ℕ → ℕ → Session
+given t block statements = record t { hand = Some block; done = 0; left = statements; looked = false; wants = None }
+
+-- what is kept of it after its step
+abbrev pub stopped : Session → Option ℕ → Block → Session
+stopped state xact block = record { hand = None; done = 0; left = 0; xact = xact; block = block; looked = false; wants = None; closed = state.closed }
+
+-- what is kept of it where its step goes on with the next statement
+abbrev pub onward : Session → Option ℕ → Block → Session
+onward state xact block = record { hand = state.hand; done = state.done + 1; left = state.left - 1; xact = xact; block = block; looked = false; wants = None; closed = state.closed }
+
+-- what is kept of a session whose statement is done: its step goes on with the next one, or ends
+abbrev pub passed : Session → Session
+passed state = cond (nat_lt 1 state.left) (onward state state.xact state.block) (stopped state state.xact state.block)
 
 -- the open transaction of a session
 abbrev pub xact_in : List Session → ℕ → ℕ

@@ -1,38 +1,33 @@
-ghost use Rattle.std.specs.Prelude.{◌≡◌, ◌<◌, ◌≤◌, ◌+◌, ◌∷◌, [], false, None, Some, IfOk, IfErr, OnOk, OnErr, IfSome, is_some, slice_get, option_map};
+ghost use Rattle.std.specs.Prelude.{◌≡◌, ◌<◌, ◌≤◌, ◌+◌, ◌∷◌, [], false, None, Some, IfOk, IfErr, OnOk, OnErr, IfSome, is_some, length, slice_get, option_map};
 ghost use Rattle.al_history.specs.declared.entry.Entry.TheVariants.{Give};
 ghost use Rattle.al_history.specs.Past.{past_of};
 ghost use Rattle.al_history.specs.Hand.{hand, in_hand, closed};
 ghost use Rattle.al_history.specs.Made.{row_entries};
-ghost use Rattle.al_engine.specs.Kept.{IsKept, parts_of, past_in};
+ghost use Rattle.al_engine.specs.Kept.{IsKept, IsSame, parts_of, past_in};
 ghost use Rattle.al_engine.specs.Closing.{HasLeft};
-ghost use Rattle.al_engine.specs.Sessions.{script_length, of_step};
+ghost use Rattle.al_engine.specs.Giving.{IsTakenUp};
+ghost use Rattle.al_engine.specs.Listed.{IsFree, controls_at};
+ghost use Rattle.al_sessions.specs.Blocks.{controls_given};
+ghost use Rattle.al_engine.specs.Sessions.{light, of_step};
+ghost use Rattle.std.specs.Option.{option_copied};
 ghost use Rattle.al_engine.specs.Ran.{Ran, IsLegalRun, AreOfSessions, IsBusyFor, IsTurned, ends_block, Cancels, IsClosed, IsReady};
 
 use crate::machine::{Machine, abort, refuse};
-use crate::sessions::{Session, first_ready, given, idle_sessions, is_held_up};
+use crate::sessions::{FEWEST_LIGHT, STATEMENT_LIGHT, STEP_LIGHT, Session, SessionList};
 use crate::told::{Busy, Told};
 use crate::turns::go_on;
-use al_history::{Cause, Entry, History, Scripts, Terms};
+use al_history::{Cause, Entry, History, Script, Scripts, Terms};
 use al_queue::LockTable;
 use al_values::{Cant, NoMemory, Steps, count_of};
 use std::alloc::Global;
 use std::marker::Model;
 use std::sync::ledger::Ledger;
 
-// The light entries that are reserved for each statement of a step: a Start, the Refuse or the Done, and the end of the transaction.
-const STATEMENT_LIGHT: usize = 3;
-
-// Those for the step itself: a Cancel and the End.
-const STEP_LIGHT: usize = 2;
-
-// Those for a step without a statement: a Cancel, its Refuse and the End.
-const FEWEST_LIGHT: usize = 3;
-
 // More than this a journal can't reserve.
-const MOST_PLACES: usize = 4_294_967_295;
+const MOST_PLACES: u64 = 4_294_967_295;
 
 /// The sessions of one run, over a database that is empty at first. Contracts see its terms, which are the blocks that may be
-/// given and the weight that the journal may have, and the past of the journal. So far each block has one statement.
+/// given and the weight that the journal may have, and the past of the journal.
 #[derive(Debug, Drop)]
 pub struct Engine {
     terms: Terms,
@@ -59,7 +54,7 @@ impl Engine {
     {
         let mut journal = History::new(alloc);
         journal.reserve(scripts.sessions as usize)?;
-        let sessions = idle_sessions(alloc, scripts.sessions)?;
+        let sessions = SessionList::new(alloc, scripts.sessions)?;
         let locks = LockTable::new(alloc, scripts.sessions)?;
         Ok(Engine {
             terms: Terms { scripts, weight },
@@ -85,16 +80,11 @@ impl Engine {
         ensures err { OnErr result (self.new ≡ self.old) }
         ensures legal { IsLegalRun self.new }
     {
-        let _ = alloc;
-        let at = session as usize;
-        let state = self.machine.sessions[at];
+        let state = self.machine.sessions.get(session);
         if state.hand.is_some() {
             return Err(Cant::Why(Busy));
         }
-        let statements = statements_of(&self.terms, block)?;
-        reserve_step(&mut self.machine.journal, statements)?;
-        self.machine.journal.note(Entry::Give { session, block });
-        self.machine.sessions[at] = given(state, block, statements);
+        take_up(alloc, &self.terms, &mut self.machine, session, block)?;
         Ok(())
     }
 
@@ -113,11 +103,11 @@ impl Engine {
         ensures bounded { steps.new ≤ steps.old + row_entries self.old.past }
         ensures legal { IsLegalRun self.new }
     {
-        let state = self.machine.sessions[session as usize];
+        let state = self.machine.sessions.get(session);
         if state.hand.is_none() {
             return Ok(Told::Idle);
         }
-        if is_held_up(&self.machine.sessions, state.wants) {
+        if self.machine.sessions.is_held_up(state.wants) {
             return Ok(Told::Waits);
         }
         let from = self.machine.journal.len();
@@ -131,7 +121,7 @@ impl Engine {
         ensures is { IsReady self.now.past result }
         ensures known { IfSome result (λ session. session < self.now.terms.scripts.sessions) }
     {
-        first_ready(&self.machine.sessions, self.terms.scripts.sessions)
+        self.machine.sessions.first_ready(self.terms.scripts.sessions)
     }
 
     /// Whether the session has a step in hand. It takes no memory.
@@ -139,7 +129,7 @@ impl Engine {
         requires known { session < self.now.terms.scripts.sessions }
         ensures { result ≡ is_some (hand self.now.past session) }
     {
-        self.machine.sessions[session as usize].hand.is_some()
+        self.machine.sessions.get(session).hand.is_some()
     }
 
     /// Ends the session's step in hand, where it has one, with 57014. It takes no memory.
@@ -148,7 +138,7 @@ impl Engine {
         ensures cancels { Cancels self.old self.new session (hand self.old.past session) }
         ensures legal { IsLegalRun self.new }
     {
-        let state = self.machine.sessions[session as usize];
+        let state = self.machine.sessions.get(session);
         if state.hand.is_some() {
             let entry = self.machine.journal.len();
             self.machine.journal.note(Entry::Cancel { session });
@@ -165,15 +155,15 @@ impl Engine {
         ensures closes { IsClosed self.old self.new session }
         ensures legal { IsLegalRun self.new }
     {
-        let at = session as usize;
-        let state = self.machine.sessions[at];
+        let state = self.machine.sessions.get(session);
         abort_open(&self.terms, &mut self.machine, session, state);
         self.machine.journal.note(Entry::Close { session });
-        self.machine.sessions[at] = Session {
+        let closed = Session {
             xact: None,
             closed: true,
             ..state
         };
+        self.machine.sessions.keep(session, closed);
     }
 
     /// The journal so far.
@@ -211,38 +201,80 @@ impl Engine {
     }
 }
 
-/// How many statements a block has; none where its text is no script.
-fn statements_of(terms: &Terms, block: u32) -> Result<u32, NoMemory>
-    ensures { IfOk result (λ count. count ≡ script_length terms.now block) }
+/// The block is the session's step in hand from now on, and the light entries of the step have their places.
+fn take_up(
+    alloc: Global,
+    terms: &Terms,
+    machine: &mut Machine,
+    session: u32,
+    block: u32,
+) -> Result<(), NoMemory>
+    requires known { session < length machine.old.sessions.list }
+    requires idle { IsFree (slice_get machine.old.sessions.list session) }
+    ensures ok { OnOk result (IsTakenUp terms.now machine.old machine.new session block) }
+    ensures err { OnErr result (IsSame (parts_of machine.old) (parts_of machine.new)) }
+{
+    let script = script_of(terms, block);
+    let statements = statements_in(script)?;
+    reserve_step(&mut machine.journal, &machine.sessions, &machine.locks, statements)?;
+    machine.sessions.give(alloc, session, block, script)?;
+    machine.journal.note(Entry::Give { session, block });
+    Ok(())
+}
+
+/// The script of a block; none where its text is no script.
+fn script_of(terms: &Terms, block: u32) -> Option<&Script>
+    ensures { controls_given (option_copied result.entry) ≡ controls_at terms.now block }
 {
     match terms.scripts.blocks.get(block as usize) {
         Some(block) => match &block.script {
-            Ok(script) => count_of(script.len()),
-            Err(_) => Ok(0),
+            Ok(script) => Some(script),
+            Err(_) => None,
         },
+        None => None,
+    }
+}
+
+/// How many statements a script has, or a text that is none.
+fn statements_in(script: Option<&Script>) -> Result<u32, NoMemory>
+    ensures { IfOk result (λ count. count ≡ length (controls_given (option_copied script.entry))) }
+{
+    match script {
+        Some(script) => count_of(script.len()),
         None => Ok(0),
     }
 }
 
-/// Reserves the places of a Give and of the light entries of its step.
-fn reserve_step(journal: &mut History, statements: u32) -> Result<(), NoMemory>
+/// Reserves what is lacking for a Give and the light entries of its step, beside the light entries of all sessions and the locks
+/// that wait.
+fn reserve_step(
+    journal: &mut History,
+    sessions: &SessionList,
+    locks: &LockTable,
+    statements: u32,
+) -> Result<(), NoMemory>
     ensures entries { journal.new.entries ≡ journal.old.entries }
-    ensures ok { OnOk result (journal.new.room ≡ journal.old.room + 1 + of_step None statements) }
+    ensures more { journal.old.room ≤ journal.new.room }
+    ensures ok { OnOk result (light sessions.now.list + length locks.now.locks.waiting + 1 + of_step None statements ≤ journal.new.room) }
     ensures err { OnErr result (journal.new.room ≡ journal.old.room) }
 {
-    let light = FEWEST_LIGHT.max(STATEMENT_LIGHT * statements as usize + STEP_LIGHT);
-    let places = 1 + light;
-    if places > MOST_PLACES {
+    let Some(owed) = sessions.light() else {
+        return Err(NoMemory);
+    };
+    let step = FEWEST_LIGHT.max(STATEMENT_LIGHT * u64::from(statements) + STEP_LIGHT);
+    let wanted = owed + u64::from(locks.waiting()) + 1 + step;
+    if wanted > MOST_PLACES {
         return Err(NoMemory);
     }
-    journal.reserve(places)
+    let lacking = wanted.saturating_sub(journal.room() as u64);
+    journal.reserve(lacking as usize)
 }
 
 /// The open transaction of an idle session is aborted, where it has one.
 fn abort_open(_terms: &Terms, machine: &mut Machine, session: u32, state: Session)
     requires known { session < _terms.now.scripts.sessions }
     requires kept { IsKept _terms.now (parts_of machine.old) }
-    requires state { slice_get machine.old.sessions.items session ≡ Some state }
+    requires state { slice_get machine.old.sessions.list session ≡ Some state }
     requires idle { hand (past_in machine.old) session ≡ None }
     requires not_closed { closed (past_in machine.old) session ≡ false }
     ensures { HasLeft _terms.now (parts_of machine.old) (parts_of machine.new) session state }

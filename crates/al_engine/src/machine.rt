@@ -10,15 +10,16 @@ ghost use Rattle.al_history.proofs.Turns.{Went};
 ghost use Rattle.al_queue.specs.Walk.{walked, released};
 ghost use Rattle.al_queue.specs.Settled.{IsSettled, HandsOn};
 ghost use Rattle.al_engine.specs.LockTie.{locked_by, IsNoted};
-ghost use Rattle.al_engine.specs.Sessions.{state_of, xact_in, wakened, woken, IsWakened};
+ghost use Rattle.al_engine.specs.Sessions.{state_of, xact_in, woken, IsWakened, stopped, onward};
+ghost use Rattle.al_engine.specs.Listed.{KeepsControls, IsAfter};
 ghost use Rattle.al_engine.specs.Ran.{IsAborted};
-ghost use Rattle.al_engine.specs.Ended.{onward};
 ghost use Rattle.al_engine.specs.Kept.{parts_of, past_in, IsAmid, IsClear, IsKept, CanBeDone, CanBeRefused, IsRefused, used_by};
 
-use crate::sessions::{Block, Session};
+use crate::sessions::{Block, Session, SessionList};
 use crate::stored::StoredTable;
 use al_history::{Cause, Entry, History, Reply, Terms};
 use al_queue::{Grant, LockTable};
+use al_sessions::How;
 
 /// What is kept of a run beside its blocks.
 #[derive(Debug, Drop)]
@@ -26,7 +27,7 @@ pub struct Machine {
     /// The journal.
     pub journal: History,
     /// The sessions.
-    pub sessions: Vec<Session>,
+    pub sessions: SessionList,
     /// All that was ever made.
     pub tables: Vec<StoredTable>,
     /// The locks of tables, by session.
@@ -37,33 +38,15 @@ pub struct Machine {
     pub weight: u64,
 }
 
-/// The open transaction of a session, 0 where it has none.
-fn xact_in(sessions: &[Session], session: u32) -> u32
-    ensures { result ≡ xact_in sessions.now session }
-{
-    match sessions.get(session as usize) {
-        Some(state) => state.xact.unwrap_or(0),
-        None => 0,
-    }
-}
-
-/// A session waits no more.
-fn wake(sessions: &mut Vec<Session>, session: u32)
-    ensures { sessions.new.items ≡ wakened session sessions.old.items }
-{
-    if let Some(state) = sessions.get_mut(session as usize) {
-        state.wants = None;
-    }
-}
-
 /// A session's locks become free, and its waiting request is taken back; the requests that can be granted then are, by ascending
 /// table number.
 fn end_claims(machine: &mut Machine, session: u32)
     requires known { session < machine.old.locks.sessions }
     requires room { length machine.old.locks.locks.waiting ≤ machine.old.journal.room }
     ensures locks { machine.new.locks ≡ record { sessions = machine.old.locks.sessions; locks = walked (released machine.old.locks.locks session) } }
-    ensures past { past_in machine.new ≡ locked_by (xact_in machine.old.sessions.items) machine.new.locks.locks.granted (past_in machine.old) }
-    ensures sessions { machine.new.sessions.items ≡ woken machine.new.locks.locks.granted machine.old.sessions.items }
+    ensures past { past_in machine.new ≡ locked_by (xact_in machine.old.sessions.list) machine.new.locks.locks.granted (past_in machine.old) }
+    ensures sessions { machine.new.sessions.list ≡ woken machine.new.locks.locks.granted machine.old.sessions.list }
+    ensures controls { KeepsControls machine.old.sessions machine.new.sessions }
     ensures room { machine.new.journal.room + length machine.new.locks.locks.granted ≡ machine.old.journal.room }
     ensures tables { machine.new.tables.items ≡ machine.old.tables.items }
     ensures committed { machine.new.committed.items ≡ machine.old.committed.items }
@@ -81,8 +64,9 @@ fn end_claims(machine: &mut Machine, session: u32)
 fn note_granted(machine: &mut Machine, i: u32)
     requires there { i < length machine.old.locks.locks.granted }
     requires room { 0 < machine.old.journal.room }
-    ensures past { IsNoted (xact_in machine.old.sessions.items) (slice_get machine.old.locks.locks.granted i) (past_in machine.old) (past_in machine.new) }
-    ensures sessions { IsWakened (slice_get machine.old.locks.locks.granted i) machine.old.sessions.items machine.new.sessions.items }
+    ensures past { IsNoted (xact_in machine.old.sessions.list) (slice_get machine.old.locks.locks.granted i) (past_in machine.old) (past_in machine.new) }
+    ensures sessions { IsWakened (slice_get machine.old.locks.locks.granted i) machine.old.sessions.list machine.new.sessions.list }
+    ensures controls { KeepsControls machine.old.sessions machine.new.sessions }
     ensures locks { machine.new.locks ≡ machine.old.locks }
     ensures room { machine.new.journal.room + 1 ≡ machine.old.journal.room }
     ensures tables { machine.new.tables.items ≡ machine.old.tables.items }
@@ -94,9 +78,9 @@ fn note_granted(machine: &mut Machine, i: u32)
         table,
         mode,
     } = machine.locks.granted(i);
-    let xact = xact_in(&machine.sessions, session);
+    let xact = machine.sessions.xact_of(session);
     machine.journal.note(Entry::Lock { xact, table, mode });
-    wake(&mut machine.sessions, session);
+    machine.sessions.wake(session);
 }
 
 /// A session's open transaction is committed.
@@ -105,8 +89,9 @@ pub fn commit(machine: &mut Machine, session: u32, xact: u32)
     requires room { length machine.old.locks.locks.waiting + 1 ≤ machine.old.journal.room }
     requires marked { xact < length machine.old.committed.items }
     ensures locks { machine.new.locks ≡ record { sessions = machine.old.locks.sessions; locks = walked (released machine.old.locks.locks session) } }
-    ensures past { past_in machine.new ≡ locked_by (xact_in machine.old.sessions.items) machine.new.locks.locks.granted (Commit xact ∷ past_in machine.old) }
-    ensures sessions { machine.new.sessions.items ≡ woken machine.new.locks.locks.granted machine.old.sessions.items }
+    ensures past { past_in machine.new ≡ locked_by (xact_in machine.old.sessions.list) machine.new.locks.locks.granted (Commit xact ∷ past_in machine.old) }
+    ensures sessions { machine.new.sessions.list ≡ woken machine.new.locks.locks.granted machine.old.sessions.list }
+    ensures controls { KeepsControls machine.old.sessions machine.new.sessions }
     ensures room { machine.new.journal.room + length machine.new.locks.locks.granted + 1 ≡ machine.old.journal.room }
     ensures tables { machine.new.tables.items ≡ machine.old.tables.items }
     ensures committed { machine.new.committed.items ≡ slice_set machine.old.committed.items xact true }
@@ -124,8 +109,9 @@ pub fn abort(machine: &mut Machine, session: u32, xact: u32)
     requires known { session < machine.old.locks.sessions }
     requires room { length machine.old.locks.locks.waiting + 1 ≤ machine.old.journal.room }
     ensures locks { machine.new.locks ≡ record { sessions = machine.old.locks.sessions; locks = walked (released machine.old.locks.locks session) } }
-    ensures past { past_in machine.new ≡ locked_by (xact_in machine.old.sessions.items) machine.new.locks.locks.granted (Abort xact ∷ past_in machine.old) }
-    ensures sessions { machine.new.sessions.items ≡ woken machine.new.locks.locks.granted machine.old.sessions.items }
+    ensures past { past_in machine.new ≡ locked_by (xact_in machine.old.sessions.list) machine.new.locks.locks.granted (Abort xact ∷ past_in machine.old) }
+    ensures sessions { machine.new.sessions.list ≡ woken machine.new.locks.locks.granted machine.old.sessions.list }
+    ensures controls { KeepsControls machine.old.sessions machine.new.sessions }
     ensures room { machine.new.journal.room + length machine.new.locks.locks.granted + 1 ≡ machine.old.journal.room }
     ensures tables { machine.new.tables.items ≡ machine.old.tables.items }
     ensures committed { machine.new.committed.items ≡ machine.old.committed.items }
@@ -135,6 +121,68 @@ pub fn abort(machine: &mut Machine, session: u32, xact: u32)
 {
     machine.journal.note(Entry::Abort { xact });
     end_claims(machine, session);
+}
+
+/// The statement in hand is done with this reply. The step goes on with the next one; after the last one it ends, and with it an
+/// implicit transaction.
+pub fn done(_terms: &Terms, machine: &mut Machine, session: u32, state: Session, reply: Reply)
+    requires known { session < _terms.now.scripts.sessions }
+    requires amid { IsAmid _terms.now (parts_of machine.old) session 0 }
+    requires clear { IsClear _terms.now (past_in machine.old) }
+    requires state { slice_get machine.old.sessions.list session ≡ Some state }
+    requires done { CanBeDone _terms.now (past_in machine.old) session state reply }
+    ensures kept { IsKept _terms.now (parts_of machine.new) }
+    ensures rows { row_entries (past_in machine.new) ≡ row_entries (past_in machine.old) }
+    ensures went { Went _terms.now session (past_in machine.old) (past_in machine.new) false (driver (past_in machine.old)) (IsLeast (past_in machine.old) session) }
+{
+    machine.journal.note(Entry::Done { session, reply });
+    if state.left > 1 {
+        let next = next_statement(state);
+        machine.sessions.after(session, How::Done, next);
+    } else if let (Block::Outside, Some(xact)) = (state.block, state.xact) {
+        commit(machine, session, xact);
+        let ended = Session {
+            xact: None,
+            ..state
+        };
+        end_step(machine, session, How::Done, ended);
+    } else {
+        end_step(machine, session, How::Done, state);
+    }
+}
+
+/// The statement in hand is refused for this cause: its transaction is aborted, where one is open, its open block fails, and its
+/// step ends.
+pub fn refuse(_terms: &Terms, machine: &mut Machine, session: u32, state: Session, cause: Cause)
+    requires known { session < _terms.now.scripts.sessions }
+    requires amid { IsAmid _terms.now (parts_of machine.old) session (used_by cause) }
+    requires state { slice_get machine.old.sessions.list session ≡ Some state }
+    requires refused { CanBeRefused _terms.now (past_in machine.old) session state cause }
+    ensures kept { IsKept _terms.now (parts_of machine.new) }
+    ensures exact { IsRefused (past_in machine.old) (past_in machine.new) session state.xact cause }
+    ensures went { Went _terms.now session (past_in machine.old) (past_in machine.new) true (driver (past_in machine.old)) (IsTurn (owed _terms.now (past_in machine.old)) (past_in machine.old) session) }
+{
+    let place = machine.journal.len();
+    machine.journal.note(Entry::Refuse { session, cause });
+    if let Some(xact) = state.xact {
+        abort(machine, session, xact);
+    }
+    let ended = Session {
+        xact: None,
+        block: failed(state.block, place),
+        ..state
+    };
+    end_step(machine, session, How::Refused, ended);
+}
+
+/// A block after a refusal at this place.
+fn failed(block: Block, place: u32) -> Block
+    ensures { state_of result ≡ failed_at place (state_of block) }
+{
+    match block {
+        Block::Open => Block::Failed { refuse: place },
+        other => other,
+    }
 }
 
 /// The session once the statement in hand is done, and goes on with the next one.
@@ -152,80 +200,28 @@ pub fn next_statement(state: Session) -> Session
     }
 }
 
-/// The statement in hand is done with this reply. The step goes on with the next one; after the last one it ends, and with it an
-/// implicit transaction.
-pub fn done(_terms: &Terms, machine: &mut Machine, session: u32, state: Session, reply: Reply)
-    requires known { session < _terms.now.scripts.sessions }
-    requires amid { IsAmid _terms.now (parts_of machine.old) session 0 }
-    requires clear { IsClear _terms.now (past_in machine.old) }
-    requires state { slice_get machine.old.sessions.items session ≡ Some state }
-    requires done { CanBeDone _terms.now (past_in machine.old) session state reply }
-    ensures kept { IsKept _terms.now (parts_of machine.new) }
-    ensures rows { row_entries (past_in machine.new) ≡ row_entries (past_in machine.old) }
-    ensures went { Went _terms.now session (past_in machine.old) (past_in machine.new) false (driver (past_in machine.old)) (IsLeast (past_in machine.old) session) }
+/// The session once its step has ended.
+fn stopped(state: Session) -> Session
+    ensures { result ≡ stopped state state.xact state.block }
 {
-    machine.journal.note(Entry::Done { session, reply });
-    if state.left > 1 {
-        machine.sessions[session as usize] = next_statement(state);
-    } else if let (Block::Outside, Some(xact)) = (state.block, state.xact) {
-        commit(machine, session, xact);
-        end_step(
-            machine,
-            session,
-            Session {
-                xact: None,
-                ..state
-            },
-        );
-    } else {
-        end_step(machine, session, state);
+    Session {
+        hand: None,
+        done: 0,
+        left: 0,
+        looked: false,
+        wants: None,
+        ..state
     }
 }
 
-/// The statement in hand is refused for this cause: its transaction is aborted, where one is open, its open block fails, and its
-/// step ends.
-pub fn refuse(_terms: &Terms, machine: &mut Machine, session: u32, state: Session, cause: Cause)
-    requires known { session < _terms.now.scripts.sessions }
-    requires amid { IsAmid _terms.now (parts_of machine.old) session (used_by cause) }
-    requires state { slice_get machine.old.sessions.items session ≡ Some state }
-    requires refused { CanBeRefused _terms.now (past_in machine.old) session state cause }
-    ensures kept { IsKept _terms.now (parts_of machine.new) }
-    ensures exact { IsRefused (past_in machine.old) (past_in machine.new) session state.xact cause }
-    ensures went { Went _terms.now session (past_in machine.old) (past_in machine.new) true (driver (past_in machine.old)) (IsTurn (owed _terms.now (past_in machine.old)) (past_in machine.old) session) }
-{
-    let place = machine.journal.len();
-    machine.journal.note(Entry::Refuse { session, cause });
-    if let Some(xact) = state.xact {
-        abort(machine, session, xact);
-    }
-    let block = failed(state.block, place);
-    end_step(
-        machine,
-        session,
-        Session {
-            xact: None,
-            block,
-            ..state
-        },
-    );
-}
-
-/// A block after a refusal at this place.
-fn failed(block: Block, place: u32) -> Block
-    ensures { state_of result ≡ failed_at place (state_of block) }
-{
-    match block {
-        Block::Open => Block::Failed { refuse: place },
-        other => other,
-    }
-}
-
-/// The step in hand ends.
-pub fn end_step(machine: &mut Machine, session: u32, state: Session)
-    requires known { session < length machine.old.sessions.items }
+/// The step in hand ends, since its last statement is done or one is refused.
+pub fn end_step(machine: &mut Machine, session: u32, how: How, state: Session)
+    requires known { session < length machine.old.sessions.list }
+    requires is_after { IsAfter how machine.old.sessions session (stopped state state.xact state.block) }
     requires room { 0 < machine.old.journal.room }
     ensures past { past_in machine.new ≡ End session ∷ past_in machine.old }
-    ensures sessions { machine.new.sessions.items ≡ slice_set machine.old.sessions.items session (record state { hand = None; looked = false; wants = None }) }
+    ensures sessions { machine.new.sessions.list ≡ slice_set machine.old.sessions.list session (stopped state state.xact state.block) }
+    ensures controls { KeepsControls machine.old.sessions machine.new.sessions }
     ensures room { machine.new.journal.room + 1 ≡ machine.old.journal.room }
     ensures tables { machine.new.tables.items ≡ machine.old.tables.items }
     ensures locks { machine.new.locks ≡ machine.old.locks }
@@ -233,10 +229,5 @@ pub fn end_step(machine: &mut Machine, session: u32, state: Session)
     ensures weight { machine.new.weight ≡ machine.old.weight }
 {
     machine.journal.note(Entry::End { session });
-    machine.sessions[session as usize] = Session {
-        hand: None,
-        looked: false,
-        wants: None,
-        ..state
-    };
+    machine.sessions.after(session, how, stopped(state));
 }

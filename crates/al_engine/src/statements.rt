@@ -19,7 +19,7 @@ ghost use Rattle.al_engine.specs.Kept.{parts_of, past_in, IsKept, IsSame, CanBeR
 ghost use Rattle.al_engine.specs.Using.{mode_of, IsLocked, create_weight};
 ghost use Rattle.al_engine.specs.Creating.{taker_in, seen_in, limit_in, look_past};
 ghost use Rattle.al_engine.specs.Stored.{all_kept};
-ghost use Rattle.al_engine.specs.Sessions.{xacts_in};
+ghost use Rattle.al_engine.specs.Listed.{KeepsControls, HasSameStep};
 
 use crate::causes::{alter_cause, count_cause, create_cause, first_of, tables_cause};
 use crate::machine::{Machine, done, refuse};
@@ -42,7 +42,7 @@ fn note_heavy(machine: &mut Machine, entry: Entry, weight: u64)
     ensures past { past_in machine.new ≡ entry ∷ past_in machine.old }
     ensures room { machine.new.journal.room + 1 ≡ machine.old.journal.room }
     ensures weight { machine.new.weight ≡ machine.old.weight + weight }
-    ensures sessions { machine.new.sessions.items ≡ machine.old.sessions.items }
+    ensures sessions { machine.new.sessions ≡ machine.old.sessions }
     ensures tables { machine.new.tables.items ≡ machine.old.tables.items }
     ensures locks { machine.new.locks ≡ machine.old.locks }
     ensures committed { machine.new.committed.items ≡ machine.old.committed.items }
@@ -97,10 +97,11 @@ fn ask(
         Asked::Queued { .. } => {
             let want = Want::Table { table, mode };
             note_heavy(machine, Entry::Wait { xact, want }, weight);
-            machine.sessions[session as usize] = Session {
+            let waiting = Session {
                 wants: Some(want),
                 ..state
             };
+            machine.sessions.keep(session, waiting);
         }
     }
     Ok(false)
@@ -117,7 +118,7 @@ fn unknown(
 ) -> Result<bool, NoMemory>
     requires known { session < terms.now.scripts.sessions }
     requires kept { IsKept terms.now (parts_of machine.old) }
-    requires state { slice_get machine.old.sessions.items session ≡ Some state }
+    requires state { slice_get machine.old.sessions.list session ≡ Some state }
     requires refused { CanBeRefused terms.now (past_in machine.old) session state (causes.NoTable name.now) }
     ensures kept { OnOk result (IsKept terms.now (parts_of machine.new)) }
     ensures went { IfOk result (λ refused. Went terms.now session (past_in machine.old) (past_in machine.new) refused (driver (past_in machine.old)) (IsLeast (past_in machine.old) session)) }
@@ -126,17 +127,6 @@ fn unknown(
     let name = name.copied(alloc)?;
     refuse(terms, machine, session, state, Cause::NoTable { name });
     Ok(true)
-}
-
-/// The sessions' open transactions.
-fn open_xacts(alloc: Global, sessions: &[Session]) -> Result<Vec<Option<u32>>, NoMemory>
-    ensures { IfOk result (λ xacts. xacts.items ≡ xacts_in sessions.now) }
-{
-    let mut xacts = Vec::with_capacity(alloc, sessions.len())?;
-    for state in sessions {
-        xacts.push(state.xact)?;
-    }
-    Ok(xacts)
 }
 
 /// Why a Look is refused, unless the statement has looked: the journal has no place for it.
@@ -168,7 +158,7 @@ fn name_taker(
 ) -> Result<Option<u32>, NoMemory>
     ensures { IfOk result (λ taker. taker ≡ taker_in (parts_of machine.now) xact name.now) }
 {
-    let opened = open_xacts(alloc, &machine.sessions)?;
+    let opened = machine.sessions.open_xacts(alloc)?;
     Ok(taker_of(&machine.tables, name, xact, &opened))
 }
 
@@ -209,7 +199,7 @@ pub fn create_table(
 ) -> Result<bool, NoMemory>
     requires known { session < terms.now.scripts.sessions }
     requires kept { IsKept terms.now (parts_of machine.old) }
-    requires state { slice_get machine.old.sessions.items session ≡ Some state }
+    requires state { slice_get machine.old.sessions.list session ≡ Some state }
     requires goes { can_go_on (past_in machine.old) session ≡ true }
     requires in_xact { state.xact ≡ Some xact }
     requires statement { statement_of terms.now state.hand state.done ≡ Some (statements.CreateTable name.now columns.now) }
@@ -259,7 +249,7 @@ fn make(
     ensures room { OnOk result (machine.old.journal.room ≤ machine.new.journal.room + 2) }
     ensures weight { OnOk result (machine.new.weight ≡ machine.old.weight + cond state.looked 0 1 + (1 + length columns.now)) }
     ensures tables { OnOk result (all_kept machine.new.tables.items ≡ all_kept machine.old.tables.items ++ record { number = length (look_past state.looked xact (past_in machine.old)); maker = xact; name = name.now; slots = slots_of xact (shape_of columns.now); rows = [] } ∷ []) }
-    ensures sessions { OnOk result (machine.new.sessions.items ≡ machine.old.sessions.items) }
+    ensures sessions { OnOk result (machine.new.sessions ≡ machine.old.sessions) }
     ensures locks { OnOk result (machine.new.locks ≡ machine.old.locks) }
     ensures committed { OnOk result (machine.new.committed.items ≡ machine.old.committed.items) }
     ensures err { OnErr result (IsSame (parts_of machine.old) (parts_of machine.new)) }
@@ -285,7 +275,7 @@ fn look(machine: &mut Machine, state: Session, xact: u32)
     ensures past { past_in machine.new ≡ look_past state.looked xact (past_in machine.old) }
     ensures room { machine.old.journal.room ≤ machine.new.journal.room + 1 }
     ensures weight { machine.new.weight ≡ machine.old.weight + cond state.looked 0 1 }
-    ensures sessions { machine.new.sessions.items ≡ machine.old.sessions.items }
+    ensures sessions { machine.new.sessions ≡ machine.old.sessions }
     ensures tables { machine.new.tables.items ≡ machine.old.tables.items }
     ensures locks { machine.new.locks ≡ machine.old.locks }
     ensures committed { machine.new.committed.items ≡ machine.old.committed.items }
@@ -297,12 +287,14 @@ fn look(machine: &mut Machine, state: Session, xact: u32)
 
 /// The statement waits for the end of another's transaction.
 fn wait_for_end(machine: &mut Machine, session: u32, state: Session, xact: u32, other: u32)
-    requires known { session < length machine.old.sessions.items }
+    requires known { session < length machine.old.sessions.list }
+    requires same_step { HasSameStep (slice_get machine.old.sessions.list session) state }
     requires room { 0 < machine.old.journal.room }
     requires fits { machine.old.weight + 2 < 2 ^ 64 }
     ensures past { past_in machine.new ≡ Wait xact (wants.Ends other) ∷ past_in machine.old }
     ensures room { machine.new.journal.room + 1 ≡ machine.old.journal.room }
-    ensures sessions { machine.new.sessions.items ≡ slice_set machine.old.sessions.items session (record state { looked = true; wants = Some (wants.Ends other) }) }
+    ensures sessions { machine.new.sessions.list ≡ slice_set machine.old.sessions.list session (record state { looked = true; wants = Some (wants.Ends other) }) }
+    ensures controls { KeepsControls machine.old.sessions machine.new.sessions }
     ensures tables { machine.new.tables.items ≡ machine.old.tables.items }
     ensures locks { machine.new.locks ≡ machine.old.locks }
     ensures committed { machine.new.committed.items ≡ machine.old.committed.items }
@@ -310,11 +302,12 @@ fn wait_for_end(machine: &mut Machine, session: u32, state: Session, xact: u32, 
 {
     let want = Want::Ends { xact: other };
     note_heavy(machine, Entry::Wait { xact, want }, 2);
-    machine.sessions[session as usize] = Session {
+    let waiting = Session {
         looked: true,
         wants: Some(want),
         ..state
     };
+    machine.sessions.keep(session, waiting);
 }
 
 /// The name of the table that a statement uses which has to be there.
@@ -354,7 +347,7 @@ pub fn use_table<L: Ledger>(
 ) -> Result<bool, NoMemory>
     requires known { session < terms.now.scripts.sessions }
     requires kept { IsKept terms.now (parts_of machine.old) }
-    requires state { slice_get machine.old.sessions.items session ≡ Some state }
+    requires state { slice_get machine.old.sessions.list session ≡ Some state }
     requires goes { can_go_on (past_in machine.old) session ≡ true }
     requires in_xact { state.xact ≡ Some xact }
     requires statement { statement_of terms.now state.hand state.done ≡ Some statement.now }

@@ -11,15 +11,18 @@ ghost use Rattle.al_history.specs.Whole.{driver, IsLeast};
 ghost use Rattle.al_history.specs.Waits.{can_go_on};
 ghost use Rattle.al_history.proofs.Turns.{Went};
 ghost use Rattle.al_engine.specs.declared.sessions.Block.TheVariants as blocks;
-ghost use Rattle.al_engine.specs.Sessions.{state_of};
+ghost use Rattle.al_sessions.specs.declared.step.How.TheVariants as hows;
+ghost use Rattle.al_engine.specs.Sessions.{state_of, passed};
+ghost use Rattle.al_engine.specs.Listed.{KeepsControls, IsAfter};
 ghost use Rattle.al_engine.specs.Ran.{ends_block};
-ghost use Rattle.al_engine.specs.Ended.{passed, IsEnded};
+ghost use Rattle.al_engine.specs.Ended.{IsEnded};
 ghost use Rattle.al_engine.specs.Kept.{parts_of, past_in, IsKept, IsSame};
 
 use crate::machine::{Machine, abort, commit, end_step, next_statement, refuse};
 use crate::sessions::{Block, Session};
 use crate::statements::{create_table, use_table};
 use al_history::{Cause, Entry, Level, Reply, Script, SqlFault, Statement, Tag, Terms};
+use al_sessions::How;
 use al_values::{NoMemory, Steps};
 use std::alloc::Global;
 use std::sync::ledger::Ledger;
@@ -36,7 +39,7 @@ pub fn go_on<L: Ledger>(
 ) -> Result<bool, NoMemory>
     requires known { session < terms.now.scripts.sessions }
     requires kept { IsKept terms.now (parts_of machine.old) }
-    requires state { slice_get machine.old.sessions.items session ≡ Some state }
+    requires state { slice_get machine.old.sessions.list session ≡ Some state }
     requires goes { can_go_on (past_in machine.old) session ≡ true }
     ensures kept { OnOk result (IsKept terms.now (parts_of machine.new)) }
     ensures went { IfOk result (λ refused. Went terms.now session (past_in machine.old) (past_in machine.new) refused (driver (past_in machine.old)) (IsLeast (past_in machine.old) session)) }
@@ -82,14 +85,14 @@ fn text_cause(fault: SqlFault) -> Cause
 fn finish(_terms: &Terms, machine: &mut Machine, session: u32, state: Session)
     requires known { session < _terms.now.scripts.sessions }
     requires kept { IsKept _terms.now (parts_of machine.old) }
-    requires state { slice_get machine.old.sessions.items session ≡ Some state }
+    requires state { slice_get machine.old.sessions.list session ≡ Some state }
     requires goes { can_go_on (past_in machine.old) session ≡ true }
     requires is_script { fault_of _terms.now state.hand ≡ None }
     requires none_left { statement_of _terms.now state.hand state.done ≡ None }
     ensures kept { IsKept _terms.now (parts_of machine.new) }
     ensures went { Went _terms.now session (past_in machine.old) (past_in machine.new) false (driver (past_in machine.old)) (IsLeast (past_in machine.old) session) }
 {
-    end_step(machine, session, state);
+    end_step(machine, session, How::Done, state);
 }
 
 /// Goes on with a statement that isn't COMMIT or ROLLBACK: in a failed block it is refused, and where no transaction is open one
@@ -105,7 +108,7 @@ fn go_on_in_block<L: Ledger>(
 ) -> Result<bool, NoMemory>
     requires known { session < terms.now.scripts.sessions }
     requires kept { IsKept terms.now (parts_of machine.old) }
-    requires state { slice_get machine.old.sessions.items session ≡ Some state }
+    requires state { slice_get machine.old.sessions.list session ≡ Some state }
     requires goes { can_go_on (past_in machine.old) session ≡ true }
     requires statement { statement_of terms.now state.hand state.done ≡ Some statement.now }
     requires goes_on { starts NoBlock statement.now ≡ true }
@@ -144,7 +147,7 @@ fn run<L: Ledger>(
 ) -> Result<bool, NoMemory>
     requires known { session < terms.now.scripts.sessions }
     requires kept { IsKept terms.now (parts_of machine.old) }
-    requires state { slice_get machine.old.sessions.items session ≡ Some state }
+    requires state { slice_get machine.old.sessions.list session ≡ Some state }
     requires goes { can_go_on (past_in machine.old) session ≡ true }
     requires in_xact { state.xact ≡ Some xact }
     requires statement { statement_of terms.now state.hand state.done ≡ Some statement.now }
@@ -192,7 +195,7 @@ fn begin(
 ) -> Result<(), NoMemory>
     requires known { session < _terms.now.scripts.sessions }
     requires kept { IsKept _terms.now (parts_of machine.old) }
-    requires state { slice_get machine.old.sessions.items session ≡ Some state }
+    requires state { slice_get machine.old.sessions.list session ≡ Some state }
     requires goes { can_go_on (past_in machine.old) session ≡ true }
     requires statement { option_map (starts (state_of state.block)) (statement_of _terms.now state.hand state.done) ≡ Some true }
     requires none_open { state.xact ≡ None }
@@ -204,11 +207,12 @@ fn begin(
     reach(&mut machine.committed, xact as usize + 1)?;
     let level = Level::ReadCommitted;
     machine.journal.note(Entry::Start { session, level });
-    machine.sessions[session as usize] = Session {
+    let begun = Session {
         xact: Some(xact),
         wants: None,
         ..state
     };
+    machine.sessions.keep(session, begun);
     Ok(())
 }
 
@@ -252,7 +256,7 @@ fn end_tag(block: Block, commits: bool) -> Tag
 fn begin_block(_terms: &Terms, machine: &mut Machine, session: u32, state: Session)
     requires known { session < _terms.now.scripts.sessions }
     requires kept { IsKept _terms.now (parts_of machine.old) }
-    requires state { slice_get machine.old.sessions.items session ≡ Some state }
+    requires state { slice_get machine.old.sessions.list session ≡ Some state }
     requires goes { can_go_on (past_in machine.old) session ≡ true }
     requires in_xact { IsSome state.xact }
     requires statement { statement_of _terms.now state.hand state.done ≡ Some statements.Begin }
@@ -272,7 +276,7 @@ fn begin_block(_terms: &Terms, machine: &mut Machine, session: u32, state: Sessi
 fn end_block(_terms: &Terms, machine: &mut Machine, session: u32, state: Session, commits: bool)
     requires known { session < _terms.now.scripts.sessions }
     requires kept { IsKept _terms.now (parts_of machine.old) }
-    requires state { slice_get machine.old.sessions.items session ≡ Some state }
+    requires state { slice_get machine.old.sessions.list session ≡ Some state }
     requires goes { can_go_on (past_in machine.old) session ≡ true }
     requires statement { statement_of _terms.now state.hand state.done ≡ Some (cond commits statements.Commit statements.Rollback) }
     ensures kept { IsKept _terms.now (parts_of machine.new) }
@@ -289,11 +293,13 @@ fn end_block(_terms: &Terms, machine: &mut Machine, session: u32, state: Session
 
 /// The step goes on with its next statement, or ends, where none is left.
 fn pass(machine: &mut Machine, session: u32, state: Session)
-    requires known { session < length machine.old.sessions.items }
+    requires known { session < length machine.old.sessions.list }
     requires room { 0 < machine.old.journal.room }
     requires few { state.done + state.left < 2 ^ 32 }
+    requires is_after { IsAfter hows.Done machine.old.sessions session (passed state) }
     ensures past { past_in machine.new ≡ cond (nat_lt 1 state.left) (past_in machine.old) (End session ∷ past_in machine.old) }
-    ensures sessions { machine.new.sessions.items ≡ slice_set machine.old.sessions.items session (passed state) }
+    ensures sessions { machine.new.sessions.list ≡ slice_set machine.old.sessions.list session (passed state) }
+    ensures controls { KeepsControls machine.old.sessions machine.new.sessions }
     ensures room { machine.new.journal.room + cond (nat_lt 1 state.left) 0 1 ≡ machine.old.journal.room }
     ensures tables { machine.new.tables.items ≡ machine.old.tables.items }
     ensures locks { machine.new.locks ≡ machine.old.locks }
@@ -301,9 +307,10 @@ fn pass(machine: &mut Machine, session: u32, state: Session)
     ensures weight { machine.new.weight ≡ machine.old.weight }
 {
     if state.left > 1 {
-        machine.sessions[session as usize] = next_statement(state);
+        let next = next_statement(state);
+        machine.sessions.after(session, How::Done, next);
     } else {
-        end_step(machine, session, state);
+        end_step(machine, session, How::Done, state);
     }
 }
 
@@ -322,7 +329,7 @@ fn out_of_block(state: Session) -> Session
 fn end_xact(_terms: &Terms, machine: &mut Machine, session: u32, state: Session, commits: bool)
     requires known { session < _terms.now.scripts.sessions }
     requires kept { IsKept _terms.now (parts_of machine.old) }
-    requires state { slice_get machine.old.sessions.items session ≡ Some state }
+    requires state { slice_get machine.old.sessions.list session ≡ Some state }
     requires goes { can_go_on (past_in machine.old) session ≡ true }
     requires statement { statement_of _terms.now state.hand state.done ≡ Some (cond commits statements.Commit statements.Rollback) }
     ensures { IsEnded _terms.now (parts_of machine.new) session state (past_in machine.old) commits }

@@ -12,7 +12,7 @@ use Rattle.al_history.specs.Hand.{hand, session_of, statement_of}
 use Rattle.al_history.specs.Made.{row_entries}
 use Rattle.al_history.specs.Store.{KeptTable, sees, with_kept, kept_row, kept_slot, slots_of, spread, store}
 use Rattle.al_history.proofs.Stores.{length_push}
-use Rattle.al_history.proofs.Vectors.{terms, ended_create, journal}
+use Rattle.al_history.proofs.Worked.Journals.{terms, ended_create, journal}
 
 -- no table has more than n rows
 abbrev pub HaveAtMost : ℕ → List KeptTable → Type 0

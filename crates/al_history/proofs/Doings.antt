@@ -59,7 +59,7 @@ pub record IsXact (past : Past) (s x : ℕ) : Type 0 where
   pub session : session_of past x ≡ s
   pub open_xact : xact_of past s ≡ Some x
 
--- an entry is this session's
+-- an entry is the session's
 abbrev pub IsBy : Past → ℕ → Entry → Type 0
 IsBy past s (Give r block) = r ≡ s
 IsBy past s (Start r level) = r ≡ s

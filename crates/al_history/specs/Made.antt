@@ -47,7 +47,7 @@ abbrev pub AreOf : ℕ → List Entry → Past → Type 0
 AreOf s [] past = Unit {0}
 AreOf s (e ∷ entries) past = IsOf s (entries ++ past) e × AreOf s entries past
 
--- the journal went on by entries of this session, and by locks of requests that waited
+-- the journal went on by entries of the session, and by locks of requests that waited
 pub record Extends (s : ℕ) (old new : Past) : Type 0 where
   pub entries : List Entry
   pub more : new ≡ entries ++ old

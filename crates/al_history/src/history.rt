@@ -56,6 +56,14 @@ impl History {
         self.entries.len() as u32
     }
 
+    /// How many places are reserved for entries to come.
+    pub fn room(&self) -> usize
+        ensures places { result ≡ self.now.room }
+        ensures few { result < 2 ^ 32 }
+    {
+        self.room
+    }
+
     /// Reserves places for more entries. A journal has at most 2^32 - 1 entries, its reserved places counted.
     pub fn reserve(&mut self, more: usize) -> Result<(), NoMemory>
         requires { more < 2 ^ 32 }

@@ -65,6 +65,13 @@ impl LockTable {
         self.sessions
     }
 
+    /// How many requests wait.
+    pub fn waiting(&self) -> u32
+        ensures { result ≡ length self.now.locks.waiting }
+    {
+        self.waiting.len() as u32
+    }
+
     /// Whether a session has a waiting request.
     pub fn waits(&self, session: u32) -> bool
         ensures { result ≡ is_some (request_at self.now.locks session) }

@@ -14,11 +14,12 @@ note_granted-requires-clause-room c = omega (arith, few_granted c.args.machine.n
 
 pub loop-i-preserved : goal.loop-i-preserved
 loop-i-preserved c =
-    let noted : IsNoted (xact_in c.loop-i.machine.sessions.items) (slice_get c.release-count.new.self.locks.granted c.loop-i.i) (past_in c.loop-i.machine) (past_in c.note_granted.new.machine) = rw c.loop-i.invariant.locks at c.note_granted.ensures.past in
-    let wakes : IsWakened (slice_get c.release-count.new.self.locks.granted c.loop-i.i) c.loop-i.machine.sessions.items c.note_granted.new.machine.sessions.items = rw c.loop-i.invariant.locks at c.note_granted.ensures.sessions in
+    let noted : IsNoted (xact_in c.loop-i.machine.sessions.list) (slice_get c.release-count.new.self.locks.granted c.loop-i.i) (past_in c.loop-i.machine) (past_in c.note_granted.new.machine) = rw c.loop-i.invariant.locks at c.note_granted.ensures.past in
+    let wakes : IsWakened (slice_get c.release-count.new.self.locks.granted c.loop-i.i) c.loop-i.machine.sessions.list c.note_granted.new.machine.sessions.list = rw c.loop-i.invariant.locks at c.note_granted.ensures.sessions in
     record {
-      past = locks_on c.args.machine.now.sessions.items _ c.release-count.new.self.locks.granted (past_of c.args.machine.now.journal) _ _ c.loop-i.i noted c.loop-i.invariant.past c.loop-i.invariant.sessions;
-      sessions = wakes_on c.args.machine.now.sessions.items _ _ c.release-count.new.self.locks.granted c.loop-i.i wakes c.loop-i.invariant.sessions;
+      past = locks_on c.args.machine.now.sessions.list _ c.release-count.new.self.locks.granted (past_of c.args.machine.now.journal) _ _ c.loop-i.i noted c.loop-i.invariant.past c.loop-i.invariant.sessions;
+      sessions = wakes_on c.args.machine.now.sessions.list _ _ c.release-count.new.self.locks.granted c.loop-i.i wakes c.loop-i.invariant.sessions;
+      controls = λ terms held. c.note_granted.ensures.controls terms (c.loop-i.invariant.controls terms held);
       locks = c.note_granted.ensures.locks ∙ c.loop-i.invariant.locks;
       tables = c.note_granted.ensures.tables ∙ c.loop-i.invariant.tables;
       committed = c.note_granted.ensures.committed ∙ c.loop-i.invariant.committed;

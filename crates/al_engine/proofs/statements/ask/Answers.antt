@@ -1,5 +1,6 @@
 use Rattle.std.proofs.Common.{ℕ, List, ◌+◌, ap, Some, slice_set, sym, ◌∙◌, arith}
 use Rattle.al_history.specs.declared.entry.Want.TheVariants as wants
+use Rattle.al_engine.specs.Listed.{Listed}
 use Rattle.al_engine.specs.Kept.{Parts, parts_of}
 use Rattle.al_engine.specs.declared.sessions.Session.{Session}
 use Rattle.al_engine.proofs.Amid.{amid_begins}
@@ -30,12 +31,12 @@ returns-in-Granted-clause-went c =
 
 pub returns-in-Queued-clause-kept : goal.returns-in-Queued-clause-kept
 returns-in-Queued-clause-kept c =
-    let q : Parts = record (parts_of c.note_heavy-in-Queued.new.machine) { sessions = slice_set c.note_heavy-in-Queued.new.machine.sessions.items c.args.session (record c.args.state { wants = Some (wants.Table c.args.table c.args.mode) }) } in
+    let q : Parts = record (parts_of c.note_heavy-in-Queued.new.machine) { sessions = c.keep.new.self.list; controls = c.keep.new.self.controls } in
     let a : AskedSo _ _ _ _ _ _ c.requires.lacks q = record { tables = c.note_heavy-in-Queued.ensures.tables; committed = c.note_heavy-in-Queued.ensures.committed; room = omega (arith, c.note_heavy-in-Queued.ensures.room, c.in_ok-reserve.ensures.ok); locks = c.note_heavy-in-Queued.ensures.locks ∙ c.in_ok-ask.ensures.ok; settled = λ was. rw c.note_heavy-in-Queued.ensures.locks (c.ask.ensures.settled was); weighs = c.note_heavy-in-Queued.ensures.weight ∙ ap (λ (n : ℕ). c.args.machine.now.weight + n) c.request_weight-weight.ensures; fits = sym (rw c.request_weight-weight.ensures at c.in_ok-cause.ensures) ∙ c.in_default.is } in
-    queued_kept _ _ _ _ _ _ c.requires.lacks q a (ap (λ (sessions : List Session). slice_set sessions c.args.session (record c.args.state { wants = Some (wants.Table c.args.table c.args.mode) })) c.note_heavy-in-Queued.ensures.sessions) (pushed _ _ c.reserve.new.self c.args.machine.now.journal c.note_heavy-in-Queued.ensures.past c.in_ok-reserve.ensures.entries) (queued_so _ _ c.in-Queued.place (sym c.in-Queued.is ∙ c.in_ok-ask.ensures.answer))
+    queued_kept _ _ _ _ _ _ c.requires.lacks q a (c.keep.ensures.list ∙ ap (λ (l : Listed). slice_set l.list c.args.session (record c.args.state { wants = Some (wants.Table c.args.table c.args.mode) })) c.note_heavy-in-Queued.ensures.sessions) (rw c.note_heavy-in-Queued.ensures.sessions at c.keep.ensures.controls) (pushed _ _ c.reserve.new.self c.args.machine.now.journal c.note_heavy-in-Queued.ensures.past c.in_ok-reserve.ensures.entries) (queued_so _ _ c.in-Queued.place (sym c.in-Queued.is ∙ c.in_ok-ask.ensures.answer))
 
 pub returns-in-Queued-clause-went : goal.returns-in-Queued-clause-went
 returns-in-Queued-clause-went c =
-    let q : Parts = record (parts_of c.note_heavy-in-Queued.new.machine) { sessions = slice_set c.note_heavy-in-Queued.new.machine.sessions.items c.args.session (record c.args.state { wants = Some (wants.Table c.args.table c.args.mode) }) } in
+    let q : Parts = record (parts_of c.note_heavy-in-Queued.new.machine) { sessions = c.keep.new.self.list; controls = c.keep.new.self.controls } in
     let a : AskedSo _ _ _ _ _ _ c.requires.lacks q = record { tables = c.note_heavy-in-Queued.ensures.tables; committed = c.note_heavy-in-Queued.ensures.committed; room = omega (arith, c.note_heavy-in-Queued.ensures.room, c.in_ok-reserve.ensures.ok); locks = c.note_heavy-in-Queued.ensures.locks ∙ c.in_ok-ask.ensures.ok; settled = λ was. rw c.note_heavy-in-Queued.ensures.locks (c.ask.ensures.settled was); weighs = c.note_heavy-in-Queued.ensures.weight ∙ ap (λ (n : ℕ). c.args.machine.now.weight + n) c.request_weight-weight.ensures; fits = sym (rw c.request_weight-weight.ensures at c.in_ok-cause.ensures) ∙ c.in_default.is } in
-    queued_went _ _ _ _ _ _ c.requires.lacks q a (ap (λ (sessions : List Session). slice_set sessions c.args.session (record c.args.state { wants = Some (wants.Table c.args.table c.args.mode) })) c.note_heavy-in-Queued.ensures.sessions) (pushed _ _ c.reserve.new.self c.args.machine.now.journal c.note_heavy-in-Queued.ensures.past c.in_ok-reserve.ensures.entries) (queued_so _ _ c.in-Queued.place (sym c.in-Queued.is ∙ c.in_ok-ask.ensures.answer))
+    queued_went _ _ _ _ _ _ c.requires.lacks q a (c.keep.ensures.list ∙ ap (λ (l : Listed). slice_set l.list c.args.session (record c.args.state { wants = Some (wants.Table c.args.table c.args.mode) })) c.note_heavy-in-Queued.ensures.sessions) (rw c.note_heavy-in-Queued.ensures.sessions at c.keep.ensures.controls) (pushed _ _ c.reserve.new.self c.args.machine.now.journal c.note_heavy-in-Queued.ensures.past c.in_ok-reserve.ensures.entries) (queued_so _ _ c.in-Queued.place (sym c.in-Queued.is ∙ c.in_ok-ask.ensures.answer))

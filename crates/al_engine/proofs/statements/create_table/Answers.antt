@@ -3,6 +3,7 @@ use Rattle.al_history.specs.declared.entry.Entry.TheVariants.{Wait}
 use Rattle.al_history.specs.declared.entry.Want.TheVariants as wants
 use Rattle.al_history.specs.Past.{Past}
 use Rattle.al_engine.specs.declared.sessions.Session.{Session}
+use Rattle.al_engine.specs.Listed.{Listed}
 use Rattle.al_engine.specs.Kept.{parts_of}
 use Rattle.al_engine.proofs.StatementLemmas.{done_went, refused_went}
 use Rattle.al_engine.proofs.CreateLemmas.{refusal_of, look_refused, look_amid, look_room, looked_past, made_past, made_tables, make_fits, create_fails, create_makes, create_waits, create_waits_went}
@@ -60,7 +61,7 @@ returns-in-Some-taker-clause-kept c =
     let taken = sym c.in_ok-taker.ensures ∙ c.in-Some-taker.is in
     let looked = looked_past c.args.state.looked c.args.xact _ c.reserve.new.self c.args.machine.now.journal c.look-in-Some-taker.ensures.past c.in_ok-reserve.ensures.entries in
     let past_is = c.wait_for_end.ensures.past ∙ ap (λ (past : Past). Wait c.args.xact (wants.Ends c.in-Some-taker.other) ∷ past) looked in
-    create_waits c.args.terms.now (parts_of c.args.machine.now) c.args.session c.args.state c.args.xact c.args.name.now c.args.columns.now c.requires.kept c.requires.state c.requires.goes c.requires.in_xact c.requires.statement fits free c.in-Some-taker.other (parts_of c.wait_for_end.new.machine) taken past_is (omega (arith, c.wait_for_end.ensures.room, c.look-in-Some-taker.ensures.room, c.in_ok-reserve.ensures.ok)) (c.wait_for_end.ensures.weight ∙ ap (λ n. n + 2) c.look-in-Some-taker.ensures.weight) (c.wait_for_end.ensures.sessions ∙ ap (λ (sessions : List Session). slice_set sessions c.args.session (record c.args.state { looked = true; wants = Some (wants.Ends c.in-Some-taker.other) })) c.look-in-Some-taker.ensures.sessions) (c.wait_for_end.ensures.tables ∙ c.look-in-Some-taker.ensures.tables) (c.wait_for_end.ensures.locks ∙ c.look-in-Some-taker.ensures.locks) (c.wait_for_end.ensures.committed ∙ c.look-in-Some-taker.ensures.committed)
+    create_waits c.args.terms.now (parts_of c.args.machine.now) c.args.session c.args.state c.args.xact c.args.name.now c.args.columns.now c.requires.kept c.requires.state c.requires.goes c.requires.in_xact c.requires.statement fits free c.in-Some-taker.other (parts_of c.wait_for_end.new.machine) taken past_is (omega (arith, c.wait_for_end.ensures.room, c.look-in-Some-taker.ensures.room, c.in_ok-reserve.ensures.ok)) (c.wait_for_end.ensures.weight ∙ ap (λ n. n + 2) c.look-in-Some-taker.ensures.weight) (c.wait_for_end.ensures.sessions ∙ ap (λ (l : Listed). slice_set l.list c.args.session (record c.args.state { looked = true; wants = Some (wants.Ends c.in-Some-taker.other) })) c.look-in-Some-taker.ensures.sessions) (rw c.look-in-Some-taker.ensures.sessions at c.wait_for_end.ensures.controls) (c.wait_for_end.ensures.tables ∙ c.look-in-Some-taker.ensures.tables) (c.wait_for_end.ensures.locks ∙ c.look-in-Some-taker.ensures.locks) (c.wait_for_end.ensures.committed ∙ c.look-in-Some-taker.ensures.committed)
 
 pub returns-in-Some-taker-clause-went : goal.returns-in-Some-taker-clause-went
 returns-in-Some-taker-clause-went c =

@@ -14,7 +14,7 @@ pub returns-in-None : goal.returns-in-None
 returns-in-None c = none_ended _ (parts_of c.args.machine.now) _ _ _ c.requires.kept c.requires.state c.requires.goes c.requires.statement c.in-None.is
 
 pub returns-in-Some : goal.returns-in-Some
-returns-in-Some c = commit_ended _ (parts_of c.args.machine.now) (parts_of c.commit.new.machine) _ _ _ _ c.requires.kept c.requires.state c.requires.goes c.requires.statement c.in-Some.is c.commit.ensures.hands_on c.commit.ensures.room c.commit.ensures.sessions c.commit.ensures.tables (ap (λ (k : Kept). k.sessions) c.commit.ensures.locks) c.commit.ensures.settled c.commit.ensures.weight c.if-commits.true c.commit.ensures.past c.commit.ensures.committed
+returns-in-Some c = commit_ended _ (parts_of c.args.machine.now) (parts_of c.commit.new.machine) _ _ _ _ c.requires.kept c.requires.state c.requires.goes c.requires.statement c.in-Some.is c.commit.ensures.hands_on c.commit.ensures.room c.commit.ensures.sessions c.commit.ensures.tables (ap (λ (k : Kept). k.sessions) c.commit.ensures.locks) c.commit.ensures.settled c.commit.ensures.weight c.commit.ensures.controls c.if-commits.true c.commit.ensures.past c.commit.ensures.committed
 
 pub returns-in-Some-2 : goal.returns-in-Some-2
-returns-in-Some-2 c = abort_ended _ (parts_of c.args.machine.now) (parts_of c.abort.new.machine) _ _ _ _ c.requires.kept c.requires.state c.requires.goes c.requires.statement c.in-Some-2.is c.abort.ensures.hands_on c.abort.ensures.room c.abort.ensures.sessions c.abort.ensures.tables (ap (λ (k : Kept). k.sessions) c.abort.ensures.locks) c.abort.ensures.settled c.abort.ensures.weight c.if-commits.false c.abort.ensures.past c.abort.ensures.committed
+returns-in-Some-2 c = abort_ended _ (parts_of c.args.machine.now) (parts_of c.abort.new.machine) _ _ _ _ c.requires.kept c.requires.state c.requires.goes c.requires.statement c.in-Some-2.is c.abort.ensures.hands_on c.abort.ensures.room c.abort.ensures.sessions c.abort.ensures.tables (ap (λ (k : Kept). k.sessions) c.abort.ensures.locks) c.abort.ensures.settled c.abort.ensures.weight c.abort.ensures.controls c.if-commits.false c.abort.ensures.past c.abort.ensures.committed

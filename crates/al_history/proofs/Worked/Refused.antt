@@ -12,9 +12,9 @@ use Rattle.al_history.specs.declared.statement.Statement.{Statement}
 use Rattle.al_history.specs.declared.statement.Statement.TheVariants as statements
 use Rattle.al_history.specs.declared.statement.Terms.{Terms}
 use Rattle.al_history.specs.Legal.{IsLegal}
-use Rattle.al_history.proofs.VectorsRules.{none_some, some_none}
-use Rattle.al_history.proofs.Vectors.{name_t, name_a, name_b, int, column_a, insert, alone, terms, terms_with, looked_create, acted_create, done_create, ended_create}
-use Rattle.al_history.proofs.VectorsCauses.{name_u, one_block, again, looked_again, refused_again, create_twice, looked_twice, started_one, counted, looked_counted}
+use Rattle.al_history.proofs.Worked.Rules.{none_some, some_none}
+use Rattle.al_history.proofs.Worked.Journals.{name_t, name_a, name_b, int, column_a, insert, alone, terms, terms_with, looked_create, acted_create, done_create, ended_create}
+use Rattle.al_history.proofs.Worked.Causes.{name_u, one_block, again, looked_again, refused_again, create_twice, looked_twice, started_one, counted, looked_counted}
 
 -- a statement is refused for a cause that isn't true
 refused_for_nothing : IsLegal terms (looked_create ++ Refuse 0 (causes.TwiceTable name_t) ∷ []) → ⊥

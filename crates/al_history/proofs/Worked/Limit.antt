@@ -18,8 +18,8 @@ use Rattle.al_history.specs.Weight.{weight}
 use Rattle.al_history.specs.Cause.{cause_of}
 use Rattle.al_history.specs.Waits.{is_blocked}
 use Rattle.al_history.specs.Legal.{IsLegal}
-use Rattle.al_history.proofs.Vectors.{name_t, name_a, name_b, int, column_a, column_b, create, insert, add_column, select, alone, looked_create, acted_create, ended_create}
-use Rattle.al_history.proofs.VectorsRules.{◌▸◌, commits, may_give, may_start, may_wait_for_lock, may_wait_for_end, may_lock, may_be_granted, may_look, may_act, may_make, may_add, may_read, may_alter, may_be_done, may_refuse, may_commit, may_abort, may_end, false_true, none_some, some_none, differ, no_more}
+use Rattle.al_history.proofs.Worked.Journals.{name_t, name_a, name_b, int, column_a, column_b, create, insert, add_column, select, alone, looked_create, acted_create, ended_create}
+use Rattle.al_history.proofs.Worked.Rules.{◌▸◌, commits, may_give, may_start, may_wait_for_lock, may_wait_for_end, may_lock, may_be_granted, may_look, may_act, may_make, may_add, may_read, may_alter, may_be_done, may_refuse, may_commit, may_abort, may_end, false_true, none_some, some_none, differ, no_more}
 
 -- ---- what entries weigh
 

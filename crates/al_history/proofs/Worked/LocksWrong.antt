@@ -12,10 +12,10 @@ use Rattle.al_history.specs.declared.entry.Entry.TheVariants.{Give, Start, Wait,
 use Rattle.al_modes.specs.Conflicts.{strictness}
 use Rattle.al_history.specs.Locks.{Claim}
 use Rattle.al_history.specs.Legal.{IsLegal}
-use Rattle.al_history.proofs.Vectors.{name_t, name_a, int}
-use Rattle.al_history.proofs.VectorsLocks.{locks, begun, altered, asked, waits, freed, granted}
-use Rattle.al_history.proofs.VectorsQueues.{two_freed, reader_asks, queue}
-use Rattle.al_history.proofs.VectorsRules.{false_true, true_false, none_some, some_none, differ}
+use Rattle.al_history.proofs.Worked.Journals.{name_t, name_a, int}
+use Rattle.al_history.proofs.Worked.Locks.{locks, begun, altered, asked, waits, freed, granted}
+use Rattle.al_history.proofs.Worked.Queues.{two_freed, reader_asks, queue}
+use Rattle.al_history.proofs.Worked.Rules.{false_true, true_false, none_some, some_none, differ}
 
 six_above_three : 6 ≤ 3 → ⊥
 six_above_three le = omega arith

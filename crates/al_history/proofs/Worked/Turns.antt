@@ -20,10 +20,10 @@ use Rattle.al_history.specs.Hand.{hand, closed}
 use Rattle.al_history.specs.Waits.{can_go_on}
 use Rattle.al_history.specs.Legal.{IsLegal}
 use Rattle.al_history.specs.Whole.{IsIdle, Driven, AreRuns}
-use Rattle.al_history.proofs.Vectors.{terms_of, name_a, int, create, insert, add_column, select, alone, ended_insert, IsAtRest, at_rest, idle, none_below, zero_below, rest_at_first, rest_after_create, rest_after_insert, ended_create}
-use Rattle.al_history.proofs.VectorsWhole.{run_of}
+use Rattle.al_history.proofs.Worked.Journals.{terms_of, name_a, int, create, insert, add_column, select, alone, ended_insert, IsAtRest, at_rest, idle, none_below, zero_below, rest_at_first, rest_after_create, rest_after_insert, ended_create}
+use Rattle.al_history.proofs.Worked.Whole.{run_of}
 use Rattle.al_history.proofs.Views.{hold_always}
-use Rattle.al_history.proofs.VectorsRules.{◌▸◌, rolls_back, may_give, may_start, may_wait_for_lock, may_lock, may_be_granted, may_look, may_act, may_make, may_add, may_read, may_alter, may_be_done, may_commit, may_end, may_close, in_turn_seven, in_turn_eight, true_false, no_more}
+use Rattle.al_history.proofs.Worked.Rules.{◌▸◌, rolls_back, may_give, may_start, may_wait_for_lock, may_lock, may_be_granted, may_look, may_act, may_make, may_add, may_read, may_alter, may_be_done, may_commit, may_end, may_close, in_turn_seven, in_turn_eight, true_false, no_more}
 
 -- the control session makes and fills t; then BEGIN and an ALTER TABLE in session 1, a SELECT in session 2, and ROLLBACK
 abbrev terms : Terms

@@ -20,9 +20,9 @@ use Rattle.al_history.specs.declared.statement.Terms.{Terms}
 use Rattle.al_history.specs.Hand.{closed}
 use Rattle.al_history.specs.Legal.{IsLegal}
 use Rattle.al_history.specs.Whole.{Driven, IsIdle, IsWhole, AreRuns}
-use Rattle.al_history.proofs.Vectors.{terms_of, column_a, create, alone, IsAtRest, at_rest, idle, none_below, zero_below, rest_at_first}
-use Rattle.al_history.proofs.VectorsRules.{◌▸◌, may_give, may_start, may_wait_for_end, may_look, may_act, may_make, may_be_done, may_refuse, may_cancel, may_abort, may_end, may_close, no_more, false_true}
-use Rattle.al_history.proofs.VectorsWhole.{run_of}
+use Rattle.al_history.proofs.Worked.Journals.{terms_of, column_a, create, alone, IsAtRest, at_rest, idle, none_below, zero_below, rest_at_first}
+use Rattle.al_history.proofs.Worked.Rules.{◌▸◌, may_give, may_start, may_wait_for_end, may_look, may_act, may_make, may_be_done, may_refuse, may_cancel, may_abort, may_end, may_close, no_more, false_true}
+use Rattle.al_history.proofs.Worked.Whole.{run_of}
 use Rattle.al_history.proofs.Views.{hold_always}
 
 -- a block of a part, whose text is empty

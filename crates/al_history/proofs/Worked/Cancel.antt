@@ -5,9 +5,9 @@ use Rattle.al_modes.specs.declared.level.Level.TheVariants as levels
 use Rattle.al_history.specs.declared.entry.Cause.TheVariants as causes
 use Rattle.al_history.specs.declared.entry.Entry.TheVariants.{Give, Start, Refuse, Abort, Cancel, End}
 use Rattle.al_history.specs.Legal.{IsLegal}
-use Rattle.al_history.proofs.Vectors.{name_t, insert}
-use Rattle.al_history.proofs.VectorsCauses.{one_block}
-use Rattle.al_history.proofs.VectorsRules.{◌▸◌, may_give, may_start, may_refuse, may_abort, may_cancel, may_end, false_true}
+use Rattle.al_history.proofs.Worked.Journals.{name_t, insert}
+use Rattle.al_history.proofs.Worked.Causes.{one_block}
+use Rattle.al_history.proofs.Worked.Rules.{◌▸◌, may_give, may_start, may_refuse, may_abort, may_cancel, may_end, false_true}
 
 -- before its statement begins
 pub cancelled_is_legal : IsLegal (one_block insert) (Give 0 0 ∷ Cancel 0 ∷ Refuse 0 (causes.Cancelled 1) ∷ End 0 ∷ [])

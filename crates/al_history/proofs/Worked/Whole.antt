@@ -16,9 +16,9 @@ use Rattle.al_history.specs.declared.run.Setup.TheVariants as setups
 use Rattle.al_history.specs.Hand.{closed}
 use Rattle.al_history.specs.Legal.{IsLegal}
 use Rattle.al_history.specs.Whole.{Driven, IsWhole, IsRun, AreRuns}
-use Rattle.al_history.proofs.Vectors.{name_a, int, alone, select, terms, filled_with, spec, spec_with, given_create, ended_insert, ended_alter, ended_select, journal, insert_is_legal, alter_is_legal, select_is_legal, journal_is_legal, journal_is_whole, IsAtRest, at_rest, zero_below, idle, rest_after_insert, driven_insert}
-use Rattle.al_history.proofs.VectorsCauses.{add_again, again, spec_again, ended_again, failed, again_is_legal, failed_is_legal, failed_is_whole}
-use Rattle.al_history.proofs.VectorsRules.{◌▸◌, in_turn_seven, in_turn_eight, may_give, may_start, may_lock, may_look, may_act, may_read, may_alter, may_be_done, may_refuse, may_commit, may_abort, may_end, may_close, false_true, no_more}
+use Rattle.al_history.proofs.Worked.Journals.{name_a, int, alone, select, terms, filled_with, spec, spec_with, given_create, ended_insert, ended_alter, ended_select, journal, insert_is_legal, alter_is_legal, select_is_legal, journal_is_legal, journal_is_whole, IsAtRest, at_rest, zero_below, idle, rest_after_insert, driven_insert}
+use Rattle.al_history.proofs.Worked.Causes.{add_again, again, spec_again, ended_again, failed, again_is_legal, failed_is_legal, failed_is_whole}
+use Rattle.al_history.proofs.Worked.Rules.{◌▸◌, in_turn_seven, in_turn_eight, may_give, may_start, may_lock, may_look, may_act, may_read, may_alter, may_be_done, may_refuse, may_commit, may_abort, may_end, may_close, false_true, no_more}
 use Rattle.al_history.proofs.Views.{hold_always}
 
 -- a run of this number and this outcome of its setup, with this journal

@@ -21,7 +21,7 @@ use Rattle.al_history.specs.Hand.{hand, closed}
 use Rattle.al_history.specs.View.{committed}
 use Rattle.al_history.specs.Legal.{IsLegal}
 use Rattle.al_history.specs.Whole.{IsIdle, Driven, IsWhole, failed_setup}
-use Rattle.al_history.proofs.VectorsRules.{◌▸◌, in_turn_seven, in_turn_eight, may_give, may_start, may_lock, may_look, may_act, may_make, may_add, may_read, may_alter, may_be_done, may_commit, may_end, may_close, no_more}
+use Rattle.al_history.proofs.Worked.Rules.{◌▸◌, in_turn_seven, in_turn_eight, may_give, may_start, may_lock, may_look, may_act, may_make, may_add, may_read, may_alter, may_be_done, may_commit, may_end, may_close, no_more}
 
 -- names are bytes
 abbrev pub name_t : List ℕ

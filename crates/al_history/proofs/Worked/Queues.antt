@@ -13,9 +13,9 @@ use Rattle.al_history.specs.Locks.{held, waiting, is_settled}
 use Rattle.al_history.specs.Waits.{is_blocked, can_go_on}
 use Rattle.al_history.specs.Made.{IsOf, Extends}
 use Rattle.al_history.specs.Legal.{IsLegal}
-use Rattle.al_history.proofs.Vectors.{name_a, int}
-use Rattle.al_history.proofs.VectorsLocks.{locks, of, begun, begun_is_legal, altered, altered_is_legal}
-use Rattle.al_history.proofs.VectorsRules.{◌▸◌, commits, may_give, may_start, may_wait_for_lock, may_lock, may_be_granted, may_look, may_act, may_add, may_read, may_alter, may_be_done, may_refuse, may_commit, may_abort, may_cancel, may_end, false_true, differ, no_more}
+use Rattle.al_history.proofs.Worked.Journals.{name_a, int}
+use Rattle.al_history.proofs.Worked.Locks.{locks, of, begun, begun_is_legal, altered, altered_is_legal}
+use Rattle.al_history.proofs.Worked.Rules.{◌▸◌, commits, may_give, may_start, may_wait_for_lock, may_lock, may_be_granted, may_look, may_act, may_add, may_read, may_alter, may_be_done, may_refuse, may_commit, may_abort, may_cancel, may_end, false_true, differ, no_more}
 
 -- Session 1 has altered t and alters u too. Session 2 waits for u, and then session 3 for t.
 abbrev pub two_wait : List Entry

@@ -17,8 +17,8 @@ use Rattle.al_history.specs.Hand.{closed}
 use Rattle.al_history.specs.View.{latest, committed}
 use Rattle.al_history.specs.Legal.{IsLegal}
 use Rattle.al_history.specs.Whole.{IsWhole, failed_setup}
-use Rattle.al_history.proofs.Vectors.{terms_of, name_t, name_a, name_b, int, column_a, insert, add_column, select, alone, steps, terms_with, spec_with, ended_create, create_is_legal, none_below, idle, rest_after_create, driven_create}
-use Rattle.al_history.proofs.VectorsRules.{◌▸◌, in_turn_six, may_give, may_start, may_lock, may_look, may_act, may_make, may_add, may_be_done, may_refuse, may_commit, may_abort, may_end, may_close, no_more}
+use Rattle.al_history.proofs.Worked.Journals.{terms_of, name_t, name_a, name_b, int, column_a, insert, add_column, select, alone, steps, terms_with, spec_with, ended_create, create_is_legal, none_below, idle, rest_after_create, driven_create}
+use Rattle.al_history.proofs.Worked.Rules.{◌▸◌, in_turn_six, may_give, may_start, may_lock, may_look, may_act, may_make, may_add, may_be_done, may_refuse, may_commit, may_abort, may_end, may_close, no_more}
 
 -- the name u
 abbrev pub name_u : List ℕ

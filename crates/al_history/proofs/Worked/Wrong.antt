@@ -8,9 +8,9 @@ use Rattle.al_history.specs.declared.entry.Reply.{Reply}
 use Rattle.al_history.specs.declared.entry.Reply.TheVariants as replies
 use Rattle.al_history.specs.declared.entry.Entry.TheVariants.{Give, Start, Look, Make, Add, Read, Alter, Done, Commit, End, Close}
 use Rattle.al_history.specs.Legal.{IsLegal}
-use Rattle.al_history.proofs.Vectors.{terms_of, name_t, name_a, name_b, int, column_a, column_b, insert, alone, terms, given_create, started_create, looked_create, acted_create, done_create, ended_create, looked_insert, acted_insert, done_insert, looked_alter, looked_select, acted_select, ended_select}
-use Rattle.al_history.proofs.VectorsCauses.{name_u, pair, added_again, looked_added, done_first, looked_second}
-use Rattle.al_history.proofs.VectorsRules.{false_true, none_some, some_none, true_false}
+use Rattle.al_history.proofs.Worked.Journals.{terms_of, name_t, name_a, name_b, int, column_a, column_b, insert, alone, terms, given_create, started_create, looked_create, acted_create, done_create, ended_create, looked_insert, acted_insert, done_insert, looked_alter, looked_select, acted_select, ended_select}
+use Rattle.al_history.proofs.Worked.Causes.{name_u, pair, added_again, looked_added, done_first, looked_second}
+use Rattle.al_history.proofs.Worked.Rules.{false_true, none_some, some_none, true_false}
 
 -- An entry is dropped.
 

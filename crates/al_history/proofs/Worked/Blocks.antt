@@ -11,8 +11,8 @@ use Rattle.al_history.specs.declared.statement.Statement.TheVariants as statemen
 use Rattle.al_history.specs.declared.statement.Terms.{Terms}
 use Rattle.al_history.specs.View.{committed}
 use Rattle.al_history.specs.Legal.{IsLegal}
-use Rattle.al_history.proofs.Vectors.{terms_of, name_t, name_a, column_a, insert, alone}
-use Rattle.al_history.proofs.VectorsRules.{◌▸◌, commits, rolls_back, may_give, may_start, may_look, may_act, may_make, may_be_done, may_refuse, may_abort, may_cancel, may_end, may_close, false_true, some_none, no_more}
+use Rattle.al_history.proofs.Worked.Journals.{terms_of, name_t, name_a, column_a, insert, alone}
+use Rattle.al_history.proofs.Worked.Rules.{◌▸◌, commits, rolls_back, may_give, may_start, may_look, may_act, may_make, may_be_done, may_refuse, may_abort, may_cancel, may_end, may_close, false_true, some_none, no_more}
 
 -- blocks of session 1: BEGIN, CREATE TABLE t (a integer), COMMIT, ROLLBACK, and an INSERT of t
 abbrev blocks : Terms

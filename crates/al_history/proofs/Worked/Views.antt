@@ -16,9 +16,9 @@ use Rattle.al_history.specs.Database.{Table, VersionedRow}
 use Rattle.al_history.specs.Fate.{fate, Open, Committed, Aborted}
 use Rattle.al_history.specs.View.{view, latest, committed}
 use Rattle.al_history.specs.Legal.{IsLegal}
-use Rattle.al_history.proofs.Vectors.{terms_of, name_t, name_a, name_b, int, column_a, column_b, insert, add_column, select, alone, terms_with, terms, done_create, ended_create, ended_insert, journal, create_is_legal}
-use Rattle.al_history.proofs.VectorsCauses.{failed}
-use Rattle.al_history.proofs.VectorsRules.{◌▸◌, may_give, may_start, may_lock, may_look, may_act, may_add, may_read, may_alter, may_be_done, may_refuse, may_commit, may_abort, may_end, no_more}
+use Rattle.al_history.proofs.Worked.Journals.{terms_of, name_t, name_a, name_b, int, column_a, column_b, insert, add_column, select, alone, terms_with, terms, done_create, ended_create, ended_insert, journal, create_is_legal}
+use Rattle.al_history.proofs.Worked.Causes.{failed}
+use Rattle.al_history.proofs.Worked.Rules.{◌▸◌, may_give, may_start, may_lock, may_look, may_act, may_add, may_read, may_alter, may_be_done, may_refuse, may_commit, may_abort, may_end, no_more}
 
 -- the table t with a column a, and with the column b too
 abbrev narrow : List VersionedRow → Table

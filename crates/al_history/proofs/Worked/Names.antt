@@ -15,9 +15,9 @@ use Rattle.al_history.specs.declared.statement.Terms.{Terms}
 use Rattle.al_history.specs.Locks.{waiting}
 use Rattle.al_history.specs.Waits.{is_blocked, can_go_on}
 use Rattle.al_history.specs.Legal.{IsLegal}
-use Rattle.al_history.proofs.Vectors.{terms_of, name_t, name_a, name_b, column_a, create, alone}
-use Rattle.al_history.proofs.VectorsCauses.{name_u}
-use Rattle.al_history.proofs.VectorsRules.{false_true, none_some, some_none, differ, ◌▸◌, commits, rolls_back, may_give, may_start, may_wait_for_end, may_look, may_act, may_make, may_be_done, may_refuse, may_commit, may_abort, may_cancel, may_end, no_more}
+use Rattle.al_history.proofs.Worked.Journals.{terms_of, name_t, name_a, name_b, column_a, create, alone}
+use Rattle.al_history.proofs.Worked.Causes.{name_u}
+use Rattle.al_history.proofs.Worked.Rules.{false_true, none_some, some_none, differ, ◌▸◌, commits, rolls_back, may_give, may_start, may_wait_for_end, may_look, may_act, may_make, may_be_done, may_refuse, may_commit, may_abort, may_cancel, may_end, no_more}
 
 -- CREATE TABLE u (a integer), and the same with a column twice
 abbrev create_u : Statement

@@ -17,9 +17,9 @@ use Rattle.al_history.specs.Locks.{Claim, held, waiting}
 use Rattle.al_history.specs.Waits.{is_blocked, can_go_on}
 use Rattle.al_history.specs.Alone.{sole_user}
 use Rattle.al_history.specs.Legal.{IsLegal}
-use Rattle.al_history.proofs.Vectors.{terms_of, name_t, name_a, name_b, int, column_a, column_b, create, insert, add_column, select, alone}
-use Rattle.al_history.proofs.VectorsCauses.{name_u}
-use Rattle.al_history.proofs.VectorsRules.{◌▸◌, commits, rolls_back, may_give, may_start, may_wait_for_lock, may_lock, may_be_granted, may_look, may_act, may_make, may_add, may_read, may_alter, may_be_done, may_refuse, may_commit, may_abort, may_cancel, may_end, no_more}
+use Rattle.al_history.proofs.Worked.Journals.{terms_of, name_t, name_a, name_b, int, column_a, column_b, create, insert, add_column, select, alone}
+use Rattle.al_history.proofs.Worked.Causes.{name_u}
+use Rattle.al_history.proofs.Worked.Rules.{◌▸◌, commits, rolls_back, may_give, may_start, may_wait_for_lock, may_lock, may_be_granted, may_look, may_act, may_make, may_add, may_read, may_alter, may_be_done, may_refuse, may_commit, may_abort, may_cancel, may_end, no_more}
 
 -- CREATE TABLE u (a integer), ALTER TABLE u ADD COLUMN b integer DEFAULT 5, SELECT * FROM u
 abbrev pub create_u : Statement
