@@ -132,8 +132,8 @@ pub record StaysIn (terms : Terms) (block : ℕ) (t : Session) : Type 0 where
 pub stays_in : (terms : Terms) (past : Past) (s block : ℕ) (t : Session) (reply : Reply) → CanBeDone terms past s t reply → t.hand ≡ Some block → StaysIn terms block t
 stays_in terms past s block t reply done busy =
     let there = answered (statement_of terms t.hand t.done) (acts_of past s) t.xact (state_of t.block) reply done.answers in
-    let in_hand : statement_of terms (Some block) t.done ≡ Some there.0 = rw busy at there.1 in
-    let moved_is : state_of (moved_block (Some (control_of there.0)) t.block) ≡ block_after reply (state_of t.block) = moves there.0 (acts_of past s) t.xact t.block reply (rw there.1 at done.answers) in
+    let in_hand : statement_of terms (Some block) t.done ≡ Some there.0 = ap (λ (o : Option ℕ). statement_of terms o t.done) (sym busy) ∙ there.1 in
+    let moved_is : state_of (moved_block (Some (control_of there.0)) t.block) ≡ block_after reply (state_of t.block) = moves there.0 (acts_of past s) t.xact t.block reply (subst (λ (o : Option Statement). Answers o (acts_of past s) t.xact (state_of t.block) reply) there.1 done.answers) in
     record {
       control = Some (control_of there.0);
       is = control_there terms block t there.0 (done.counted block busy) in_hand;

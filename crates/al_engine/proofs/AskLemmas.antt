@@ -29,7 +29,7 @@ use Rattle.al_history.proofs.Doings.{Doing, doing, moved, IsXact, IsBy, own_move
 use Rattle.al_history.proofs.Turns.{Went, stage_begins, stage_on, stage_went, wait_went, step_lock}
 use Rattle.al_history.proofs.Xacts.{xact_is}
 use Rattle.al_engine.specs.declared.sessions.Session.{Session}
-use Rattle.al_engine.specs.Listed.{KeepsControls, Listed}
+use Rattle.al_engine.specs.Listed.{AreControlled, KeepsControls, Listed}
 use Rattle.al_engine.specs.Kept.{listed_in, Parts, IsKept, CanBeRefused, Lacks, over_by, used_by}
 use Rattle.al_engine.specs.LockTie.{grant_of, asks, IsTied}
 use Rattle.al_engine.specs.Sessions.{IsMirror, IsUnderway, IsOutlined}
@@ -219,7 +219,7 @@ module _ (terms : Terms) (p : Parts) (s : ℕ) (t : Session) (x : ℕ) (c : Clai
       sound = record {
         legal = rw past_is (lock_may, k.kept.sound.legal);
         count = rw sessions k.kept.sound.count;
-        controlled = rw same k.kept.sound.controlled;
+        controlled = subst (λ (l : Listed). AreControlled terms l) (sym same) k.kept.sound.controlled;
         beyond = λ r le. rw past_is (k.kept.sound.beyond r (rw sessions at le));
         stored = rw (a.tables, past_is) k.kept.sound.stored;
         tells = λ y. rw (a.committed, past_is) (k.kept.sound.tells y);

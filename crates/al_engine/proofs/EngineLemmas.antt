@@ -1,5 +1,5 @@
 -- What the engine keeps through each of its calls, and what contracts see of them.
-use Rattle.std.proofs.Common.{◌≡◌, ℕ, suc, zero, ◌+◌, ◌<◌, ◌≤◌, [], ◌∷◌, length, refl, sym, ap, cond, true, false, Bool, Option, Some, None, arith, ◌∙◌, slice_get, slice_set, option_map, replicate, inl, inr, ◌-◌, ◌^◌}
+use Rattle.std.proofs.Common.{◌≡◌, List, ℕ, suc, zero, ◌+◌, ◌<◌, ◌≤◌, [], ◌∷◌, length, refl, sym, ap, cond, true, false, Bool, Option, Some, None, arith, ◌∙◌, slice_get, slice_set, option_map, replicate, inl, inr, ◌-◌, ◌^◌}
 use Rattle.std.specs.Prelude.{◌==◌, is_some, Result, Ok, Err}
 use Rattle.std.proofs.lemmas.Bool.{ne_eqb}
 use Rattle.std.proofs.lemmas.Option.{slice_get_within}
@@ -96,6 +96,9 @@ open_keeps terms p none room idle tables locks committed weighs =
     record {
       sound = record {
         legal = rw past tt;
+        controlled = λ s block t is busy.
+            let first : t ≡ idle_session = got_idle terms.scripts.sessions s t (rw idle at is) in
+            absurd (let wrong : ◌≡◌ {A = Option ℕ} None (Some block) = rw first at busy in cc);
         count = rw idle (length_replicate terms.scripts.sessions);
         beyond = λ r le. rw past refl;
         stored = rw (past, tables) refl;
@@ -155,7 +158,7 @@ step_light (Some x) left = omega arith
 pub controls_length : (terms : Terms) (block : ℕ) → length (controls_at terms block) ≡ script_length terms block
 controls_length terms block = by_block (slice_get terms.scripts.blocks block) where
   by_script : (script : Result (List Statement) SqlFault) → length (controls_by script) ≡ length_in script
-  by_script (Ok script) = length-map control_of script
+  by_script (Ok script) = length-map script control_of
   by_script (Err fault) = refl
 
   by_block : (o : Option ScriptBlock) → length (controls_for o) ≡ length_at o
@@ -186,7 +189,7 @@ module _ (terms : Terms) (old new : Machine) (s block : ℕ) (t : Session) (kept
       let outline = (kept.mirrors s t there).outline in
       rw (own_moves given_past s (Give s block) refl) (record {
         outline = record { hand_is = refl; xact_is = outline.xact_is; block_is = outline.block_is; closed_is = outline.closed_is; wants_is = refl };
-        underway = λ b e. let same : block ≡ b = cc in rw (← same) (record { dones_is = refl; counted = record { all = controls_length terms block; few = taken.few; some = λ e. refl }; none_refused = refl; no_acts = refl; look_is = refl; only_creates = λ e. absurd cc });
+        underway = λ b e. let same : block ≡ b = cc in rw (← same) (record { dones_is = refl; counted = record { all = omega (arith, controls_length terms block); few = omega (arith, taken.few); some = λ e. refl }; none_refused = refl; no_acts = refl; look_is = refl; only_creates = λ e. absurd cc });
       })
 
   given_other : (r : ℕ) → s < r → (s == r) ≡ false

@@ -28,7 +28,7 @@ use Rattle.al_history.proofs.Doings.{Doing, doing, acted, moved, IsXact, IsBy, o
 use Rattle.al_history.proofs.Turns.{Stage, Went, stage_begins, stage_on, step_look, extends_on}
 use Rattle.al_history.proofs.Xacts.{xact_is, turn}
 use Rattle.al_engine.specs.declared.sessions.Session.{Session}
-use Rattle.al_engine.specs.Listed.{Listed}
+use Rattle.al_engine.specs.Listed.{AreControlled, Listed}
 use Rattle.al_engine.specs.Kept.{listed_in, Parts, IsAmid, IsClear, IsKept, CanBeDone, CanBeRefused, over_by}
 use Rattle.al_engine.specs.LockTie.{asks, IsTied}
 use Rattle.al_engine.specs.Sessions.{IsMirror, IsUnderway, IsOutlined, MakesTable, state_of, IsCounted}
@@ -262,7 +262,7 @@ module _ (terms : Terms) (p q : Parts) (s rows : ℕ) (kept : IsKept terms p) (s
     sound = record {
       legal = st.legal;
       count = rw sessions_still kept.sound.count;
-      controlled = rw still.same kept.sound.controlled;
+      controlled = subst (λ (l : Listed). AreControlled terms l) (sym still.same) kept.sound.controlled;
       beyond = λ r le. st.hands r ∙ kept.sound.beyond r (rw sessions_still at le);
       stored = stored;
       tells = tells_still;

@@ -102,9 +102,9 @@ IsFree None = ⊥
 IsFree (Some t) = t.hand ≡ None
 
 -- it has a step in hand, of which nothing is done
-pub record IsGiven (old new : Listed) (s block : ℕ) (controls : List Control) : Type 0 where
-  pub list : (t : Session) → slice_get old.list s ≡ Some t → new.list ≡ slice_set old.list s (given t block (length controls))
-  pub controls : (terms : Terms) → controls ≡ controls_at terms block → AreControlled terms old → AreControlled terms new
+pub record IsGiven (old new : Listed) (s block : ℕ) (does : List Control) : Type 0 where
+  pub list : (t : Session) → slice_get old.list s ≡ Some t → new.list ≡ slice_set old.list s (given t block (length does))
+  pub controls : (terms : Terms) → does ≡ controls_at terms block → AreControlled terms old → AreControlled terms new
 
 abbrev pub HasSameStep : Option Session → Session → Type 0
 HasSameStep None state = ⊥

@@ -224,7 +224,7 @@ fn take_up(
 
 /// The script of a block; none where its text is no script.
 fn script_of(terms: &Terms, block: u32) -> Option<&Script>
-    ensures { controls_given (option_copied result.entry) ≡ controls_at terms.now block }
+    ensures { controls_given (option_copied result) ≡ controls_at terms.now block }
 {
     match terms.scripts.blocks.get(block as usize) {
         Some(block) => match &block.script {

@@ -1,6 +1,8 @@
 //! What is kept of each session.
-ghost use Rattle.std.specs.Prelude.{◌≡◌, ◌<◌, ◌^◌, None, Some, IfOk, OnOk, OnErr, IfSome, IfNone, length, map, replicate, slice_get, slice_set};
+ghost use Rattle.std.specs.Prelude.{◌≡◌, ◌<◌, ◌^◌, None, Some, IfOk, OnOk, OnErr, IfSome, IfNone, unwrap_or, option_and_then, length, map, replicate, slice_get, slice_set};
 ghost use Rattle.std.specs.Option.{option_copied};
+ghost use Rattle.std.specs.List.{list_any};
+ghost use Rattle.al_history.specs.Fate.{is_that};
 ghost use Rattle.al_sessions.specs.Blocks.{controls_given};
 ghost use Rattle.al_engine.specs.Sessions.{idle_session, xact_in, xacts_in, light, light_of, is_open_in, is_held_up, wakened, IsFirstReady, AreStuck};
 ghost use Rattle.al_engine.specs.declared.sessions.Beside.{Beside};
@@ -179,19 +181,17 @@ impl SessionList {
         ensures list { self.new.list ≡ wakened session self.old.list }
         ensures controls { KeepsControls self.old self.new }
     {
-        if let Some(beside) = self.beside.get_mut(session as usize) {
-            beside.wants = None;
+        if (session as usize) < self.beside.len() {
+            self.beside[session as usize].wants = None;
         }
     }
 
     /// The open transaction of a session, 0 where it has none.
+    #[tactic(auto, using(crate::proofs::Joined::xact_joined))]
     pub fn xact_of(&self, session: u32) -> u32
         ensures { result ≡ xact_in self.now.list session }
     {
-        match self.beside.get(session as usize) {
-            Some(beside) => beside.xact.unwrap_or(0),
-            None => 0,
-        }
+        xact_beside(&self.beside, session)
     }
 
     /// The sessions' open transactions.
@@ -203,21 +203,15 @@ impl SessionList {
 
     /// Whether somebody holds up what is wanted: a lock is always held up while it is waited for, since it is granted as soon as it
     /// can be, and the end of a transaction while one of the sessions has it open.
+    #[tactic(auto, using(crate::proofs::Joined::open_joined))]
     pub fn is_held_up(&self, wants: Option<Want>) -> bool
         ensures { result ≡ is_held_up self.now.list wants }
     {
         match wants {
             None => false,
             Some(Want::Table { .. }) => true,
-            Some(Want::Ends { xact }) => self.is_open(xact),
+            Some(Want::Ends { xact }) => is_open_beside(&self.beside, xact),
         }
-    }
-
-    /// Whether one of the sessions has the transaction open.
-    fn is_open(&self, xact: u32) -> bool
-        ensures { result ≡ is_open_in self.now.list xact }
-    {
-        self.beside.iter().any(|beside| beside.xact == Some(xact))
     }
 
     /// How many light entries are owed to the sessions, where that isn't more than a journal can have.
@@ -281,6 +275,23 @@ fn all_beside(alloc: Global, count: u32) -> Result<Vec<Beside>, NoMemory>
         })?;
     }
     Ok(beside)
+}
+
+/// The open transaction of a session, 0 where it has none.
+fn xact_beside(sessions: &[Beside], session: u32) -> u32
+    ensures { result ≡ unwrap_or (option_and_then (λ (beside : Beside). beside.xact) (slice_get sessions.now session)) 0 }
+{
+    match sessions.get(session as usize) {
+        Some(beside) => beside.xact.unwrap_or(0),
+        None => 0,
+    }
+}
+
+/// Whether one of the sessions has the transaction open.
+fn is_open_beside(sessions: &[Beside], xact: u32) -> bool
+    ensures { result ≡ list_any (λ (beside : Beside). is_that beside.xact xact) sessions.now }
+{
+    sessions.iter().any(|beside| beside.xact == Some(xact))
 }
 
 /// The open transactions.

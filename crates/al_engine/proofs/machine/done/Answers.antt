@@ -1,11 +1,13 @@
-use Rattle.std.proofs.Common.{◌≡◌, arith, ap, refl, None, ◌<◌, ◌≤◌, sym}
+use Rattle.std.proofs.Common.{◌≡◌, ◌∙◌, arith, ap, refl, None, Some, slice_get, ◌<◌, ◌≤◌, sym}
+use Rattle.al_history.specs.Past.{past_of}
 use Rattle.al_history.specs.Hand.{if_no_block}
 use Rattle.al_queue.specs.Locks.{Kept}
+use Rattle.al_engine.specs.LockTie.{is_granted}
 use Rattle.al_engine.specs.Sessions.{state_of}
 use Rattle.al_engine.specs.Kept.{parts_of}
 use Rattle.al_engine.proofs.DoneLemmas.{IsBusy, busy_by, spare, not_outside, commits_kept, commits_went, commits_rows, over_by_done}
 use Rattle.al_engine.proofs.AfterLemmas.{stays_in, goes_after, ends_after}
-use Rattle.al_engine.proofs.Woken.{woken_get, woken_length, few_granted}
+use Rattle.al_engine.proofs.Woken.{calmed, woken_get, woken_length, few_granted}
 use Rattle.al_engine.proofs.machine.done.Goals.{in_default-via-in-Outside+in_default, in_default-via-in_default}
 use Rattle.al_engine.proofs.machine.done.Goals as goal
 use Rattle.al_engine.proofs.OverLemmas.{on_went, on_kept, over_went, over_kept}
@@ -28,21 +30,21 @@ end_step-requires-in_default-clause-room c = omega (arith, spare _ (parts_of c.a
 pub after-requires-clause-is_after : goal.after-requires-clause-is_after
 after-requires-clause-is_after c =
     let b : IsBusy c.args.state = busy_by c.args.state c.requires.done.in_step in
-    let stays = stays_in _ _ _ b.block c.args.state c.args.reply c.requires.done b.is in
-    rw c.next_statement-next.ensures (goes_after _ _ _ b.block c.args.state c.args.state.wants c.args.state.xact c.args.state.block stays.control c.requires.amid.sound.controlled c.requires.state b.is stays.is stays.stays (omega (arith, c.if-state-gt1.true)))
+    let stays = stays_in c.args._terms.now (past_of c.args.machine.now.journal) c.args.session b.block c.args.state c.args.reply c.requires.done b.is in
+    rw c.next_statement-next.ensures (goes_after c.args._terms.now c.args.machine.now.sessions c.args.session b.block c.args.state c.args.state.wants c.args.state.xact c.args.state.block stays.control c.requires.amid.sound.controlled c.requires.state b.is stays.is stays.stays (omega (arith, c.if-state-gt1.true)))
 
 pub end_step-requires-clause-is_after : goal.end_step-requires-clause-is_after
 end_step-requires-clause-is_after c =
     let b : IsBusy c.args.state = busy_by c.args.state c.requires.done.in_step in
-    let stays = stays_in _ _ _ b.block c.args.state c.args.reply c.requires.done b.is in
-    let there = rw c.commit.ensures.sessions (woken_get c.commit.new.machine.locks.locks.granted c.args.machine.now.sessions.list c.args.session ∙ rw c.requires.state refl) in
-    ends_after _ _ _ b.block c.args.state _ None c.args.state.block stays.control (c.commit.ensures.controls _ c.requires.amid.sound.controlled) there b.is stays.is stays.stays (omega (arith, c.if-state-gt1.false))
+    let stays = stays_in c.args._terms.now (past_of c.args.machine.now.journal) c.args.session b.block c.args.state c.args.reply c.requires.done b.is in
+    let there : slice_get c.commit.new.machine.sessions.list c.args.session ≡ Some (calmed (is_granted c.args.session c.commit.new.machine.locks.locks.granted) c.args.state) = rw c.commit.ensures.sessions (woken_get c.commit.new.machine.locks.locks.granted c.args.machine.now.sessions.list c.args.session ∙ rw c.requires.state refl) in
+    ends_after c.args._terms.now c.commit.new.machine.sessions c.args.session b.block c.args.state _ None c.args.state.block stays.control (c.commit.ensures.controls c.args._terms.now c.requires.amid.sound.controlled) there b.is stays.is stays.stays (omega (arith, c.if-state-gt1.false))
 
 pub end_step-requires-in_default-clause-is_after : goal.end_step-requires-in_default-clause-is_after
 end_step-requires-in_default-clause-is_after c =
     let b : IsBusy c.args.state = busy_by c.args.state c.requires.done.in_step in
-    let stays = stays_in _ _ _ b.block c.args.state c.args.reply c.requires.done b.is in
-    ends_after _ _ _ b.block c.args.state c.args.state.wants c.args.state.xact c.args.state.block stays.control c.requires.amid.sound.controlled c.requires.state b.is stays.is stays.stays (omega (arith, c.if-state-gt1.false))
+    let stays = stays_in c.args._terms.now (past_of c.args.machine.now.journal) c.args.session b.block c.args.state c.args.reply c.requires.done b.is in
+    ends_after c.args._terms.now c.args.machine.now.sessions c.args.session b.block c.args.state c.args.state.wants c.args.state.xact c.args.state.block stays.control c.requires.amid.sound.controlled c.requires.state b.is stays.is stays.stays (omega (arith, c.if-state-gt1.false))
 
 pub returns-in-Outside-Some-clause-kept : goal.returns-in-Outside-Some-clause-kept
 returns-in-Outside-Some-clause-kept c =

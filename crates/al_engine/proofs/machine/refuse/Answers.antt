@@ -42,7 +42,7 @@ end_step-requires-clause-room c = refusing_room _ _ (parts_of c.match-state.mach
 pub end_step-requires-clause-is_after : goal.end_step-requires-clause-is_after
 end_step-requires-clause-is_after c =
     let r = refusing_so_far c in
-    after_refused _ _ c.len-place.result c.args.state _ None c.failed.result (r.there ∙ ap Some r.like) c.requires.refused.in_step c.failed.ensures
+    after_refused c.match-state.machine.sessions c.args.session c.len-place.result c.args.state _ None c.failed.result (r.there ∙ ap Some r.like) c.requires.refused.in_step c.failed.ensures
 
 pub returns-clause-kept : goal.returns-clause-kept
 returns-clause-kept c = let b : IsBusy c.args.state = busy_by c.args.state c.requires.refused.in_step in refused_kept c.args._terms.now (past_of c.args.machine.now.journal) (parts_of c.match-state.machine) (parts_of c.end_step.new.machine) c.args.session b.block c.args.state c.args.cause c.failed.result (refusing c) c.requires.refused b.is (c.failed.ensures ∙ ap (λ (place : ℕ). failed_at place (state_of c.args.state.block)) c.len-place.ensures.past) c.end_step.ensures.past c.end_step.ensures.room c.end_step.ensures.sessions c.end_step.ensures.tables c.end_step.ensures.locks c.end_step.ensures.committed c.end_step.ensures.weight c.end_step.ensures.controls

@@ -1,6 +1,6 @@
-use Rattle.std.proofs.Common.{◌≡◌, take}
-use Rattle.al_engine.specs.Sessions.{xacts_in}
-use Rattle.al_engine.proofs.statements.open_xacts.Given as goal
+use Rattle.std.proofs.Common.{◌≡◌, map, take}
+use Rattle.al_engine.specs.declared.sessions.Beside.{Beside}
+use Rattle.al_engine.proofs.sessions.xacts_beside.Given as goal
 
-abbrev pub invariant-loop-state : goal.invariant-loop-state
-invariant-loop-state l = l.xacts.items ≡ xacts_in (take l.state-index l.sessions)
+abbrev pub invariant-loop-beside : goal.invariant-loop-beside
+invariant-loop-beside l = l.xacts.items ≡ map (λ (beside : Beside). beside.xact) (take l.beside-index l.sessions)

@@ -25,7 +25,7 @@ pub pass-requires-clause-is_after : goal.pass-requires-clause-is_after
 pass-requires-clause-is_after c =
     let over = begin_over _ (parts_of c.args.machine.now) _ _ c.requires.kept c.requires.state c.requires.goes c.requires.in_xact c.requires.statement in
     let in_hand = rw over.is_last.hand_is at c.requires.statement in
-    after_done _ _ _ over.is_last.block c.args.state _ c.args.state.xact c.opened-block.result _ c.requires.kept.sound.controlled c.requires.state over.is_last.hand_is (control_there _ over.is_last.block c.args.state statements.Begin over.is_last.counted in_hand) (moved_begin c.opened-block.result c.args.state.block c.opened-block.ensures)
+    after_done c.args._terms.now c.args.machine.now.sessions c.args.session over.is_last.block c.args.state _ c.args.state.xact c.opened-block.result _ c.requires.kept.sound.controlled c.requires.state over.is_last.hand_is (control_there c.args._terms.now over.is_last.block c.args.state statements.Begin over.is_last.counted in_hand) (moved_begin c.opened-block.result c.args.state.block c.opened-block.ensures)
 
 pub returns-clause-kept : goal.returns-clause-kept
 returns-clause-kept c =

@@ -22,7 +22,7 @@ pub pass-requires-clause-is_after : goal.pass-requires-clause-is_after
 pass-requires-clause-is_after c =
     let over = c.end_xact.ensures.over in
     let its : statement_of c.args._terms.now (Some over.is_last.block) c.args.state.done ≡ Some (cond c.args.commits statements.Commit statements.Rollback) = rw over.is_last.hand_is at c.requires.statement in
-    rw c.out_of_block.ensures (after_done _ _ _ over.is_last.block c.args.state _ None blocks.Outside (Some EndsBlock) over.amid.sound.controlled (over.there ∙ ap Some over.like) over.is_last.hand_is (control_there _ over.is_last.block c.args.state _ over.is_last.counted its ∙ ap Some (ends_control c.args.commits)) refl)
+    rw c.out_of_block.ensures (after_done c.args._terms.now c.end_xact.new.machine.sessions c.args.session over.is_last.block c.args.state _ None blocks.Outside (Some EndsBlock) over.amid.sound.controlled (over.there ∙ ap Some over.like) over.is_last.hand_is (control_there c.args._terms.now over.is_last.block c.args.state _ over.is_last.counted its ∙ ap Some (ends_control c.args.commits)) refl)
 
 pub returns-clause-kept : goal.returns-clause-kept
 returns-clause-kept c =

@@ -1,5 +1,5 @@
 use Rattle.al_engine.specs.Sessions.{AreStuck}
-use Rattle.al_engine.proofs.sessions.first_ready.Given as goal
+use Rattle.al_engine.proofs.sessions.SessionList.first_ready.Given as goal
 
 abbrev pub invariant-loop-at : goal.invariant-loop-at
-invariant-loop-at l = AreStuck l.sessions l.at
+invariant-loop-at l = AreStuck l.self.list l.at
