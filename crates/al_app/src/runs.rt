@@ -3,12 +3,12 @@ ghost use Rattle.std.specs.Prelude.{◌≡◌, ℕ, ◌<◌, ◌≤◌, ◌+◌,
 ghost use Rattle.al_history.specs.declared.run.Setup.TheVariants as setups;
 ghost use Rattle.al_history.specs.Hand.{hand, closed};
 ghost use Rattle.al_history.specs.Whole.{IsLeast, is_setup, each_block};
-ghost use Rattle.al_engine.specs.Ran.{Ran, IsLegalRun, IsTurned};
+ghost use Rattle.al_engine.specs.Ran.{Ran, IsLegalRun, IsTurned, is_refused};
 ghost use Rattle.al_spec.specs.Keeps.{Each};
 ghost use Rattle.al_spec.specs.Sound.{IsStepAt};
 ghost use Rattle.al_app.specs.Runs.{journal_weight, IsRunnable, HasTurned, IsDriven, IsAtRest, HasRunBlock, CancelsIfBusy, IsNoneBusy, HasRunWhole, SetupRan, SetupSoFar, SetupGoesOn, StepsRan, SessionsCancelled, is_of, AreOpenFor, tasks_from, TeardownsRan, SessionsClosed, IsEnded, HasRunOne};
 
-use al_engine::{Busy, Engine, Told};
+use al_engine::{Busy, Engine, Outcome, Told};
 use al_history::{Block, Part, Run, Scripts, Setup, Spec};
 use al_values::{Cant, NoMemory, Steps, count_of};
 use std::alloc::Global;
@@ -54,18 +54,18 @@ fn turn_uncounted<L: Ledger>(
     engine.turn(alloc, session, &mut steps)
 }
 
-/// Goes on with the step in hand of the least session that can go on. It tells whether the step was refused.
-fn take_turn(alloc: Global, engine: &mut Engine, session: u32) -> Result<bool, NoMemory>
+/// Goes on with the step in hand of the least session that can go on. It tells what became of its statement.
+fn take_turn(alloc: Global, engine: &mut Engine, session: u32) -> Result<Outcome, NoMemory>
     requires known { session < engine.old.terms.scripts.sessions }
     requires least { IsLeast engine.old.past session }
-    ensures { IfOk result (λ refused. HasTurned engine.old engine.new refused) }
+    ensures { IfOk result (λ outcome. HasTurned engine.old engine.new (is_refused outcome)) }
 {
     match turn_uncounted::<Brand>(alloc, engine, session, Blank::new(1))? {
         Told::Went {
             from: _,
             to: _,
-            refused,
-        } => Ok(refused),
+            outcome,
+        } => Ok(outcome),
         Told::Waits => unreachable!(),
         Told::Idle => unreachable!(),
     }
@@ -80,7 +80,8 @@ fn drive(alloc: Global, engine: &mut Engine) -> Result<bool, NoMemory>
         let Some(session) = engine.ready() else {
             return Ok(refused);
         };
-        refused |= take_turn(alloc, engine, session)?;
+        let outcome = take_turn(alloc, engine, session)?;
+        refused |= outcome == Outcome::Refused;
     }
 }
 

@@ -1,5 +1,5 @@
 -- What becomes of a session's step by the list of sessions is what the journal says of it.
-use Rattle.std.proofs.Common.{◌≡◌, ℕ, ◌+◌, ◌<◌, ◌≤◌, List, [], ◌∷◌, refl, sym, ap, cond, true, false, Bool, Option, Some, None, arith, ◌∙◌, slice_get, get_or, subst}
+use Rattle.std.proofs.Common.{◌≡◌, ℕ, ◌<◌, ◌≤◌, List, [], ◌∷◌, refl, sym, ap, cond, true, false, Bool, Option, Some, None, arith, ◌∙◌, slice_get, get_or, subst}
 use Rattle.std.specs.Prelude.{nat_lt, IsSome, option_map, option_and_then, Result, Ok, Err}
 use Rattle.std.proofs.lemmas.Bool.{lt-ltb, le-ltb}
 use Rattle.std.proofs.lemmas.Option.{slice_get-map, get_or_from_slice_get}
@@ -12,16 +12,16 @@ use Rattle.al_history.specs.declared.statement.Statement.{Statement}
 use Rattle.al_history.specs.declared.statement.Statement.TheVariants as statements
 use Rattle.al_history.specs.declared.statement.Terms.{Terms}
 use Rattle.al_history.specs.Past.{Past}
-use Rattle.al_history.specs.Hand.{BlockState, acts_of, opened, failed_at, block_after, statement_in, statement_of}
+use Rattle.al_history.specs.Hand.{acts_of, opened, failed_at, block_after, statement_in, statement_of}
 use Rattle.al_history.specs.Rules.{Answers, commit_tag}
 use Rattle.al_sessions.specs.declared.block.Control.{Control}
-use Rattle.al_sessions.specs.declared.block.Control.TheVariants.{Begins, EndsBlock, Other}
+use Rattle.al_sessions.specs.declared.block.Control.TheVariants.{Begins, EndsBlock}
 use Rattle.al_sessions.specs.declared.step.How.TheVariants.{Done, Refused}
 use Rattle.al_sessions.specs.Blocks.{control_of}
 use Rattle.al_engine.specs.declared.sessions.Block.{Block}
 use Rattle.al_engine.specs.declared.sessions.Block.TheVariants as blocks
 use Rattle.al_engine.specs.declared.sessions.Session.{Session}
-use Rattle.al_engine.specs.Sessions.{state_of, IsCounted, length_at, script_length, passed, onward, stopped}
+use Rattle.al_engine.specs.Sessions.{state_of, IsCounted, script_length, passed, onward, stopped}
 use Rattle.al_engine.specs.Listed.{Listed, AreControlled, controls_by, controls_for, controls_at, control_in, moved_block, failed_block, IsAfter}
 use Rattle.al_engine.specs.Kept.{CanBeDone}
 use Rattle.al_engine.proofs.OverLemmas.{answered}

@@ -1,8 +1,7 @@
 -- The list of sessions, which is joined from their steps and from what is kept beside.
 use Rattle.std.proofs.Common.{◌≡◌, ℕ, zero, suc, ◌+◌, ◌-◌, ◌<◌, ◌≤◌, List, [], ◌∷◌, map, length, refl, sym, ap, cond, true, false, Bool, Option, Some, None, arith, ◌∙◌, slice_get, slice_set, take, replicate, get_or, unwrap_or}
-use Rattle.std.specs.Prelude.{nat_lt, if◌then◌else◌, option_map, option_and_then, IsSome, is_some}
+use Rattle.std.specs.Prelude.{nat_lt, if◌then◌else◌, option_and_then, IsSome}
 use Rattle.std.specs.List.{list_any}
-use Rattle.std.specs.Option.{option_map_or}
 use Rattle.std.proofs.lemmas.Bool.{ltb-true, ltb-false, lt-ltb, le-ltb}
 use Rattle.std.proofs.lemmas.Option.{slice_get-get_or, slice_get_past, slice_get_read}
 use Rattle.al_history.specs.declared.statement.Terms.{Terms}
@@ -17,13 +16,12 @@ use Rattle.al_sessions.specs.declared.step.Next.TheVariants.{Run, Finish}
 use Rattle.al_sessions.specs.declared.step.How.{How}
 use Rattle.al_sessions.specs.declared.step.How.TheVariants.{Done, Refused}
 use Rattle.al_sessions.specs.Blocks.{moved, failed}
-use Rattle.al_sessions.specs.Steps.{at_rest, progress_of, left_of, next_of, given as put, state_on, step_on, after, after_done}
+use Rattle.al_sessions.specs.Steps.{at_rest, progress_of, next_of, given as put, after, after_done}
 use Rattle.al_engine.specs.declared.sessions.Block.{Block}
-use Rattle.al_engine.specs.declared.sessions.Block.TheVariants as blocks
 use Rattle.al_engine.specs.declared.sessions.Session.{Session}
 use Rattle.al_engine.specs.declared.sessions.Beside.{Beside}
 use Rattle.al_engine.specs.Sessions.{given, passed, stopped, onward, idle_session, light, light_of, wakened, xact_in, xacts_in, is_open_in}
-use Rattle.al_engine.specs.Listed.{Listed, listed, nothing_beside, hand_in, done_in, block_in, refuse_of, joined, all_joined, controls_in, controls_at, control_in, moved_block, failed_block, IsNext, IsAfterwards, IsAfter, AreControlled, KeepsControls, HasSameStep, IsGiven, IsFree}
+use Rattle.al_engine.specs.Listed.{listed, nothing_beside, hand_in, block_in, refuse_of, joined, all_joined, controls_in, controls_at, control_in, moved_block, failed_block, IsAfterwards, IsAfter, AreControlled, KeepsControls, HasSameStep, IsFree}
 
 -- ---- one of the sessions
 
@@ -300,17 +298,17 @@ module _ (ps : List Progress) (bs : List Beside) (same : length ps ≡ length bs
   give_list block does b is free t there =
       let its : joined (progress_of ps n) b ≡ t = same_of (joined (progress_of ps n) b) t (sym (got_here b is) ∙ there) in
       set_joined ps bs n (put does (progress_of ps n)) (record b { block = block; looked = false; wants = None }) ∙ ap (λ (u : Session). slice_set (all_joined ps bs) n u) (given_joined (progress_of ps n) ∙ ap (λ (u : Session). given u block (length does)) its) where
-    same_of : (d b : Session) → Some d ≡ Some b → d ≡ b
-    same_of d b e = cc
+        same_of : (d b : Session) → Some d ≡ Some b → d ≡ b
+        same_of d b e = cc
 
-    given_joined : (p : Progress) → joined (put does p) (record b { block = block; looked = false; wants = None }) ≡ given (joined p b) block (length does)
-    given_joined p = by_test (nat_lt 0 (length does)) refl where
-      whole : length does - 0 ≡ length does
-      whole = omega arith
+        given_joined : (p : Progress) → joined (put does p) (record b { block = block; looked = false; wants = None }) ≡ given (joined p b) block (length does)
+        given_joined p = by_test (nat_lt 0 (length does)) refl where
+          whole : length does - 0 ≡ length does
+          whole = omega arith
 
-      by_test : (more : Bool) → nat_lt 0 (length does) ≡ more → joined (put does p) (record b { block = block; looked = false; wants = None }) ≡ given (joined p b) block (length does)
-      by_test true is = rw (is, whole) refl
-      by_test false is = rw (is, whole) refl
+          by_test : (more : Bool) → nat_lt 0 (length does) ≡ more → joined (put does p) (record b { block = block; looked = false; wants = None }) ≡ given (joined p b) block (length does)
+          by_test true is = rw (is, whole) refl
+          by_test false is = rw (is, whole) refl
 
 -- what was given is of its block
 pub give_keeps_controls : (ps : List Progress) (bs : List Beside) (n block : ℕ) (does : List Control) (b : Beside) (terms : Terms) → length ps ≡ length bs → does ≡ controls_at terms block → AreControlled terms (listed ps bs) → AreControlled terms (listed (slice_set ps n (put does (progress_of ps n))) (slice_set bs n (record b { block = block; looked = false; wants = None })))

@@ -1,5 +1,5 @@
 -- A statement that is refused: its open transaction is aborted, its open block fails, and its step ends.
-use Rattle.std.proofs.Common.{◌≡◌, ℕ, ◌+◌, ◌<◌, ◌≤◌, [], ◌∷◌, length, refl, sym, ap, cond, true, false, Bool, Option, Some, None, arith, ◌∙◌, inl, inr, slice_get, slice_set, subst}
+use Rattle.std.proofs.Common.{◌≡◌, ℕ, ◌+◌, ◌<◌, ◌≤◌, [], ◌∷◌, length, refl, sym, ap, cond, true, Bool, Option, Some, None, arith, ◌∙◌, inl, inr, slice_get, slice_set, subst}
 use Rattle.al_history.specs.declared.entry.Cause.{Cause}
 use Rattle.al_history.specs.declared.entry.Cause.TheVariants as causes
 use Rattle.al_history.specs.declared.entry.Entry.TheVariants.{Refuse, Abort, End}

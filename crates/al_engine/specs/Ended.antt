@@ -1,5 +1,5 @@
 -- Where BEGIN, COMMIT or ROLLBACK can be done: its transaction is open, or has ended.
-use Rattle.std.specs.Prelude.{◌≡◌, ℕ, nat_lt, ◌+◌, ◌-◌, ◌<◌, ◌≤◌, ◌∷◌, Bool, true, false, cond, Option, Some, None, slice_get}
+use Rattle.std.specs.Prelude.{◌≡◌, ℕ, ◌+◌, ◌<◌, ◌≤◌, ◌∷◌, Bool, true, false, cond, Option, Some, None, slice_get}
 use Rattle.al_history.specs.declared.entry.Entry.TheVariants.{Done}
 use Rattle.al_history.specs.declared.entry.Reply.{Reply}
 use Rattle.al_history.specs.declared.entry.Reply.TheVariants as replies

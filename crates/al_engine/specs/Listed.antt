@@ -6,7 +6,7 @@ use Rattle.al_history.specs.declared.statement.ScriptBlock.{ScriptBlock}
 use Rattle.al_history.specs.declared.statement.SqlFault.{SqlFault}
 use Rattle.al_history.specs.declared.statement.Statement.{Statement}
 use Rattle.al_sessions.specs.declared.block.Control.{Control}
-use Rattle.al_sessions.specs.declared.block.Control.TheVariants.{Begins, EndsBlock, Other}
+use Rattle.al_sessions.specs.declared.block.Control.TheVariants.{Begins, EndsBlock}
 use Rattle.al_sessions.specs.declared.block.BlockState.{BlockState}
 use Rattle.al_sessions.specs.declared.block.BlockState.TheVariants as states
 use Rattle.al_sessions.specs.declared.step.InStep.{InStep}

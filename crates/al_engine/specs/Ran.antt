@@ -20,8 +20,15 @@ use Rattle.al_history.specs.declared.entry.Entry.{Entry}
 use Rattle.al_history.specs.Legal.{Legal}
 use Rattle.al_history.specs.Whole.{driver, failed_setup, or_else, of_setup, Task, closes, next_move, left_by, left, IsIdle, IsLeast, Driven}
 use Rattle.al_engine.specs.declared.told.Busy.{Busy}
+use Rattle.al_engine.specs.declared.told.Outcome.{Outcome}
+use Rattle.al_engine.specs.declared.told.Outcome.TheVariants as outcomes
 use Rattle.al_engine.specs.declared.told.Told.{Told}
 use Rattle.al_engine.specs.declared.told.Told.TheVariants as tells
+
+-- whether a statement was refused
+abbrev pub is_refused : Outcome → Bool
+is_refused outcomes.WentOn = false
+is_refused outcomes.Refused = true
 
 pub record Ran : Type 0 where
   pub terms : Terms
@@ -95,7 +102,7 @@ pub record IsIdleTurn (old new : Ran) (session : ℕ) : Type 0 where
   pub none : hand old.past session ≡ None
 
 abbrev pub IsTurned : Ran → Ran → ℕ → Told → Type 0
-IsTurned old new session (tells.Went from to refused) = WentOn old new session from to refused
+IsTurned old new session (tells.Went from to outcome) = WentOn old new session from to (is_refused outcome)
 IsTurned old new session tells.Waits = IsWaitingTurn old new session
 IsTurned old new session tells.Idle = IsIdleTurn old new session
 

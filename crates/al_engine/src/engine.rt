@@ -111,9 +111,9 @@ impl Engine {
             return Ok(Told::Waits);
         }
         let from = self.machine.journal.len();
-        let refused = go_on(alloc, &self.terms, &mut self.machine, session, state, steps)?;
+        let outcome = go_on(alloc, &self.terms, &mut self.machine, session, state, steps)?;
         let to = self.machine.journal.len();
-        Ok(Told::Went { from, to, refused })
+        Ok(Told::Went { from, to, outcome })
     }
 
     /// The least session that can go on with a step in hand. It takes no memory.
@@ -121,7 +121,9 @@ impl Engine {
         ensures is { IsReady self.now.past result }
         ensures known { IfSome result (λ session. session < self.now.terms.scripts.sessions) }
     {
-        self.machine.sessions.first_ready(self.terms.scripts.sessions)
+        self.machine
+            .sessions
+            .first_ready(self.terms.scripts.sessions)
     }
 
     /// Whether the session has a step in hand. It takes no memory.
@@ -216,7 +218,12 @@ fn take_up(
 {
     let script = script_of(terms, block);
     let statements = statements_in(script)?;
-    reserve_step(&mut machine.journal, &machine.sessions, &machine.locks, statements)?;
+    reserve_step(
+        &mut machine.journal,
+        &machine.sessions,
+        &machine.locks,
+        statements,
+    )?;
     machine.sessions.give(alloc, session, block, script)?;
     machine.journal.note(Entry::Give { session, block });
     Ok(())

@@ -15,4 +15,4 @@ mod turns;
 mod weights;
 
 pub use engine::Engine;
-pub use told::{Busy, Told};
+pub use told::{Busy, Outcome, Told};

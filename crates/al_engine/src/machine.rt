@@ -167,12 +167,12 @@ pub fn refuse(_terms: &Terms, machine: &mut Machine, session: u32, state: Sessio
     if let Some(xact) = state.xact {
         abort(machine, session, xact);
     }
-    let ended = Session {
+    let aborted = Session {
         xact: None,
         block: failed(state.block, place),
         ..state
     };
-    end_step(machine, session, How::Refused, ended);
+    end_step(machine, session, How::Refused, aborted);
 }
 
 /// A block after a refusal at this place.

@@ -16,6 +16,7 @@ ghost use Rattle.al_history.specs.Whole.{driver, IsLeast};
 ghost use Rattle.al_history.specs.Waits.{can_go_on};
 ghost use Rattle.al_history.proofs.Turns.{Went};
 ghost use Rattle.al_engine.specs.Kept.{parts_of, past_in, IsKept, IsSame, CanBeRefused, Lacks, over_by};
+ghost use Rattle.al_engine.specs.Ran.{is_refused};
 ghost use Rattle.al_engine.specs.Using.{mode_of, IsLocked, create_weight};
 ghost use Rattle.al_engine.specs.Creating.{taker_in, seen_in, limit_in, look_past};
 ghost use Rattle.al_engine.specs.Stored.{all_kept};
@@ -28,6 +29,7 @@ use crate::stored::{
     Reader, StoredColumn, StoredRow, columns_of, filled, names_of, new_table, position_of,
     push_column, push_row, rows_of, shape_of, spread, taker_of,
 };
+use crate::told::Outcome;
 use crate::weights::{over, plus, read_weight, row_weight};
 use al_history::{Cause, Column, Entry, Mode, Reply, RewrittenList, Statement, Tag, Terms, Want};
 use al_queue::{Asked, LockTable};
@@ -79,17 +81,17 @@ fn ask(
     xact: u32,
     table: u32,
     mode: Mode,
-) -> Result<bool, NoMemory>
+) -> Result<Outcome, NoMemory>
     requires known { session < terms.now.scripts.sessions }
     requires lacks { Lacks terms.now (parts_of machine.old) session state xact (record { session = session; table = table; mode = mode }) }
     ensures kept { OnOk result (IsKept terms.now (parts_of machine.new)) }
-    ensures went { IfOk result (λ refused. Went terms.now session (past_in machine.old) (past_in machine.new) refused (driver (past_in machine.old)) (IsLeast (past_in machine.old) session)) }
+    ensures went { IfOk result (λ outcome. Went terms.now session (past_in machine.old) (past_in machine.new) (is_refused outcome) (driver (past_in machine.old)) (IsLeast (past_in machine.old) session)) }
     ensures err { OnErr result (IsSame (parts_of machine.old) (parts_of machine.new)) }
 {
     let weight = request_weight(&machine.locks, session, table, mode);
     if let Some(cause) = over(terms.weight, machine.weight, weight)? {
         refuse(terms, machine, session, state, cause);
-        return Ok(true);
+        return Ok(Outcome::Refused);
     }
     machine.journal.reserve(2)?;
     match machine.locks.ask(session, table, mode)? {
@@ -104,7 +106,7 @@ fn ask(
             machine.sessions.keep(session, waiting);
         }
     }
-    Ok(false)
+    Ok(Outcome::WentOn)
 }
 
 /// The table that a statement uses isn't there.
@@ -115,18 +117,18 @@ fn unknown(
     session: u32,
     state: Session,
     name: &Name,
-) -> Result<bool, NoMemory>
+) -> Result<Outcome, NoMemory>
     requires known { session < terms.now.scripts.sessions }
     requires kept { IsKept terms.now (parts_of machine.old) }
     requires state { slice_get machine.old.sessions.list session ≡ Some state }
     requires refused { CanBeRefused terms.now (past_in machine.old) session state (causes.NoTable name.now) }
     ensures kept { OnOk result (IsKept terms.now (parts_of machine.new)) }
-    ensures went { IfOk result (λ refused. Went terms.now session (past_in machine.old) (past_in machine.new) refused (driver (past_in machine.old)) (IsLeast (past_in machine.old) session)) }
+    ensures went { IfOk result (λ outcome. Went terms.now session (past_in machine.old) (past_in machine.new) (is_refused outcome) (driver (past_in machine.old)) (IsLeast (past_in machine.old) session)) }
     ensures err { OnErr result (IsSame (parts_of machine.old) (parts_of machine.new)) }
 {
     let name = name.copied(alloc)?;
     refuse(terms, machine, session, state, Cause::NoTable { name });
-    Ok(true)
+    Ok(Outcome::Refused)
 }
 
 /// Why a Look is refused, unless the statement has looked: the journal has no place for it.
@@ -196,7 +198,7 @@ pub fn create_table(
     xact: u32,
     name: &Name,
     columns: &NameList,
-) -> Result<bool, NoMemory>
+) -> Result<Outcome, NoMemory>
     requires known { session < terms.now.scripts.sessions }
     requires kept { IsKept terms.now (parts_of machine.old) }
     requires state { slice_get machine.old.sessions.list session ≡ Some state }
@@ -204,14 +206,14 @@ pub fn create_table(
     requires in_xact { state.xact ≡ Some xact }
     requires statement { statement_of terms.now state.hand state.done ≡ Some (statements.CreateTable name.now columns.now) }
     ensures kept { OnOk result (IsKept terms.now (parts_of machine.new)) }
-    ensures went { IfOk result (λ refused. Went terms.now session (past_in machine.old) (past_in machine.new) refused (driver (past_in machine.old)) (IsLeast (past_in machine.old) session)) }
+    ensures went { IfOk result (λ outcome. Went terms.now session (past_in machine.old) (past_in machine.new) (is_refused outcome) (driver (past_in machine.old)) (IsLeast (past_in machine.old) session)) }
     ensures err { OnErr result (IsSame (parts_of machine.old) (parts_of machine.new)) }
 {
     let limit = terms.weight;
     let looked = state.looked;
     if let Some(cause) = look_cause(limit, machine.weight, looked)? {
         refuse(terms, machine, session, state, cause);
-        return Ok(true);
+        return Ok(Outcome::Refused);
     }
     let columns = columns.as_slice();
     let taker = name_taker(alloc, machine, xact, name)?;
@@ -220,18 +222,18 @@ pub fn create_table(
     if let Some(cause) = refusal {
         look(machine, state, xact);
         refuse(terms, machine, session, state, cause);
-        return Ok(true);
+        return Ok(Outcome::Refused);
     }
     if let Some(other) = taker {
         look(machine, state, xact);
         wait_for_end(machine, session, state, xact, other);
-        return Ok(false);
+        return Ok(Outcome::WentOn);
     }
     make(alloc, machine, state, xact, name, columns)?;
     let tag = Tag::CreateTable;
     let reply = Reply::Tag { tag, count: 0 };
     done(terms, machine, session, state, reply);
-    Ok(false)
+    Ok(Outcome::WentOn)
 }
 
 /// Looks, unless the statement has looked, and makes its table.
@@ -344,7 +346,7 @@ pub fn use_table<L: Ledger>(
     xact: u32,
     statement: &Statement,
     steps: &mut Steps<L>,
-) -> Result<bool, NoMemory>
+) -> Result<Outcome, NoMemory>
     requires known { session < terms.now.scripts.sessions }
     requires kept { IsKept terms.now (parts_of machine.old) }
     requires state { slice_get machine.old.sessions.list session ≡ Some state }
@@ -353,7 +355,7 @@ pub fn use_table<L: Ledger>(
     requires statement { statement_of terms.now state.hand state.done ≡ Some statement.now }
     requires uses { IsSome (used_name statement.now) }
     ensures kept { OnOk result (IsKept terms.now (parts_of machine.new)) }
-    ensures went { IfOk result (λ refused. Went terms.now session (past_in machine.old) (past_in machine.new) refused (driver (past_in machine.old)) (IsLeast (past_in machine.old) session)) }
+    ensures went { IfOk result (λ outcome. Went terms.now session (past_in machine.old) (past_in machine.new) (is_refused outcome) (driver (past_in machine.old)) (IsLeast (past_in machine.old) session)) }
     ensures err { OnErr result (IsSame (parts_of machine.old) (parts_of machine.new)) }
     ensures counted { steps.old ≤ steps.new }
     ensures bounded { steps.new ≤ steps.old + row_entries (past_in machine.old) }
@@ -373,7 +375,7 @@ pub fn use_table<L: Ledger>(
     }
     if let Some(cause) = over(terms.weight, machine.weight, 1)? {
         refuse(terms, machine, session, state, cause);
-        return Ok(true);
+        return Ok(Outcome::Refused);
     }
     act(
         alloc, terms, machine, session, state, xact, at, statement, steps,
@@ -391,12 +393,12 @@ fn act<L: Ledger>(
     at: usize,
     statement: &Statement,
     steps: &mut Steps<L>,
-) -> Result<bool, NoMemory>
+) -> Result<Outcome, NoMemory>
     requires known { session < terms.now.scripts.sessions }
     requires locked { IsLocked terms.now (parts_of machine.old) session state xact statement.now at }
     requires uses { IsSome (used_name statement.now) }
     ensures kept { OnOk result (IsKept terms.now (parts_of machine.new)) }
-    ensures went { IfOk result (λ refused. Went terms.now session (past_in machine.old) (past_in machine.new) refused (driver (past_in machine.old)) (IsLeast (past_in machine.old) session)) }
+    ensures went { IfOk result (λ outcome. Went terms.now session (past_in machine.old) (past_in machine.new) (is_refused outcome) (driver (past_in machine.old)) (IsLeast (past_in machine.old) session)) }
     ensures err { OnErr result (IsSame (parts_of machine.old) (parts_of machine.new)) }
     ensures counted { steps.old ≤ steps.new }
     ensures bounded { steps.new ≤ steps.old + row_entries (past_in machine.old) }
@@ -423,11 +425,11 @@ fn insert(
     xact: u32,
     at: usize,
     written: &Row,
-) -> Result<bool, NoMemory>
+) -> Result<Outcome, NoMemory>
     requires known { session < terms.now.scripts.sessions }
     requires locked { (name : List ℕ) × IsLocked terms.now (parts_of machine.old) session state xact (statements.Insert name written.now) at }
     ensures kept { OnOk result (IsKept terms.now (parts_of machine.new)) }
-    ensures went { IfOk result (λ refused. Went terms.now session (past_in machine.old) (past_in machine.new) refused (driver (past_in machine.old)) (IsLeast (past_in machine.old) session)) }
+    ensures went { IfOk result (λ outcome. Went terms.now session (past_in machine.old) (past_in machine.new) (is_refused outcome) (driver (past_in machine.old)) (IsLeast (past_in machine.old) session)) }
     ensures err { OnErr result (IsSame (parts_of machine.old) (parts_of machine.new)) }
 {
     let reader = Reader {
@@ -442,7 +444,7 @@ fn insert(
     if let Some(cause) = count_cause(columns.as_slice(), written.len())? {
         note_heavy(machine, Entry::Look { xact }, 1);
         refuse(terms, machine, session, state, cause);
-        return Ok(true);
+        return Ok(Outcome::Refused);
     }
     let row = filled(alloc, columns.as_slice(), written)?;
     let weight = plus(1, row_weight(row.as_slice())?)?;
@@ -451,7 +453,7 @@ fn insert(
     if let Some(cause) = over_limit {
         note_heavy(machine, Entry::Look { xact }, 1);
         refuse(terms, machine, session, state, cause);
-        return Ok(true);
+        return Ok(Outcome::Refused);
     }
     let stored = StoredRow {
         number: machine.journal.len() + 1,
@@ -465,7 +467,7 @@ fn insert(
     let tag = Tag::Insert;
     let reply = Reply::Tag { tag, count: 1 };
     done(terms, machine, session, state, reply);
-    Ok(false)
+    Ok(Outcome::WentOn)
 }
 
 /// SELECT: all rows are read. Each row version of its table is looked at once, and counted.
@@ -478,11 +480,11 @@ fn select<L: Ledger>(
     xact: u32,
     at: usize,
     steps: &mut Steps<L>,
-) -> Result<bool, NoMemory>
+) -> Result<Outcome, NoMemory>
     requires known { session < terms.now.scripts.sessions }
     requires locked { (name : List ℕ) × IsLocked terms.now (parts_of machine.old) session state xact (statements.Select name) at }
     ensures kept { OnOk result (IsKept terms.now (parts_of machine.new)) }
-    ensures went { IfOk result (λ refused. Went terms.now session (past_in machine.old) (past_in machine.new) refused (driver (past_in machine.old)) (IsLeast (past_in machine.old) session)) }
+    ensures went { IfOk result (λ outcome. Went terms.now session (past_in machine.old) (past_in machine.new) (is_refused outcome) (driver (past_in machine.old)) (IsLeast (past_in machine.old) session)) }
     ensures err { OnErr result (IsSame (parts_of machine.old) (parts_of machine.new)) }
     ensures counted { steps.old ≤ steps.new }
     ensures bounded { steps.new ≤ steps.old + row_entries (past_in machine.old) }
@@ -502,12 +504,12 @@ fn select<L: Ledger>(
     note_heavy(machine, Entry::Look { xact }, 1);
     if let Some(cause) = over_limit {
         refuse(terms, machine, session, state, cause);
-        return Ok(true);
+        return Ok(Outcome::Refused);
     }
     let entry = machine.journal.len();
     note_heavy(machine, Entry::Read { xact, names, rows }, weight);
     done(terms, machine, session, state, Reply::Rows { entry });
-    Ok(false)
+    Ok(Outcome::WentOn)
 }
 
 /// ALTER TABLE with ADD COLUMN. No row is copied: it has the column's default from then on.
@@ -520,11 +522,11 @@ fn add_column(
     xact: u32,
     at: usize,
     column: &Column,
-) -> Result<bool, NoMemory>
+) -> Result<Outcome, NoMemory>
     requires known { session < terms.now.scripts.sessions }
     requires locked { (name : List ℕ) × IsLocked terms.now (parts_of machine.old) session state xact (statements.AddColumn name column.now) at }
     ensures kept { OnOk result (IsKept terms.now (parts_of machine.new)) }
-    ensures went { IfOk result (λ refused. Went terms.now session (past_in machine.old) (past_in machine.new) refused (driver (past_in machine.old)) (IsLeast (past_in machine.old) session)) }
+    ensures went { IfOk result (λ outcome. Went terms.now session (past_in machine.old) (past_in machine.new) (is_refused outcome) (driver (past_in machine.old)) (IsLeast (past_in machine.old) session)) }
     ensures err { OnErr result (IsSame (parts_of machine.old) (parts_of machine.new)) }
 {
     let reader = Reader {
@@ -541,7 +543,7 @@ fn add_column(
     if let Some(cause) = first_of(found, over_limit) {
         note_heavy(machine, Entry::Look { xact }, 1);
         refuse(terms, machine, session, state, cause);
-        return Ok(true);
+        return Ok(Outcome::Refused);
     }
     let column = StoredColumn {
         maker: xact,
@@ -559,5 +561,5 @@ fn add_column(
     let tag = Tag::AlterTable;
     let reply = Reply::Tag { tag, count: 0 };
     done(terms, machine, session, state, reply);
-    Ok(false)
+    Ok(Outcome::WentOn)
 }

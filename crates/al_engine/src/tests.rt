@@ -3,7 +3,7 @@ ghost use Rattle.al_history.specs.Hand.{closed};
 ghost use Rattle.al_engine.specs.Ran.{AreOfSessions, Ran};
 ghost use Rattle.al_history.specs.declared.statement.ScriptBlock.{ScriptBlock};
 
-use crate::{Engine, Told};
+use crate::{Engine, Outcome, Told};
 use al_history::{Column, Entry, History, ScriptBlock, Scripts, Statement};
 use al_values::{ListOf, Name, NameList, NoMemory, Row, Steps, Value};
 use std::alloc::Global;
@@ -106,7 +106,7 @@ fn turn_in<L: Ledger>(
 {
     let mut steps = Steps::<L>::new(blank);
     match engine.turn(alloc, session, &mut steps)? {
-        Told::Went { from, to, refused } => Ok(Told::Went { from, to, refused }),
+        Told::Went { from, to, outcome } => Ok(Told::Went { from, to, outcome }),
         Told::Waits => Ok(Told::Waits),
         Told::Idle => Ok(Told::Idle),
     }
@@ -208,7 +208,7 @@ fn waits_for_commit(rt: HostRuntime) -> Result<(), Fail> {
         Told::Went {
             from: 21,
             to: 25,
-            refused: false
+            outcome: Outcome::WentOn
         }
     );
     assert_eq!(rt; engine.ready(), Some(1));

@@ -2,6 +2,15 @@
 #[derive(Clone, Copy, Debug, PartialEq, Eq)]
 pub struct Busy;
 
+/// What became of a statement in a turn.
+#[derive(Clone, Copy, Debug, PartialEq, Eq)]
+pub enum Outcome {
+    /// It goes on, or is done.
+    WentOn,
+    /// It was refused, and its step has ended.
+    Refused,
+}
+
 /// What a turn of a session did.
 #[derive(Clone, Copy, Debug, PartialEq, Eq)]
 pub enum Told {
@@ -11,8 +20,8 @@ pub enum Told {
         from: u32,
         /// The place after the last.
         to: u32,
-        /// Whether the step's statement was refused.
-        refused: bool,
+        /// What became of the statement in hand.
+        outcome: Outcome,
     },
     /// The session's step in hand waits: somebody blocks it.
     Waits,

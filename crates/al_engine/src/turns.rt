@@ -14,21 +14,22 @@ ghost use Rattle.al_engine.specs.declared.sessions.Block.TheVariants as blocks;
 ghost use Rattle.al_sessions.specs.declared.step.How.TheVariants as hows;
 ghost use Rattle.al_engine.specs.Sessions.{state_of, passed};
 ghost use Rattle.al_engine.specs.Listed.{KeepsControls, IsAfter};
-ghost use Rattle.al_engine.specs.Ran.{ends_block};
+ghost use Rattle.al_engine.specs.Ran.{ends_block, is_refused};
 ghost use Rattle.al_engine.specs.Ended.{IsEnded};
 ghost use Rattle.al_engine.specs.Kept.{parts_of, past_in, IsKept, IsSame};
 
 use crate::machine::{Machine, abort, commit, end_step, next_statement, refuse};
 use crate::sessions::{Block, Session};
 use crate::statements::{create_table, use_table};
+use crate::told::Outcome;
 use al_history::{Cause, Entry, Level, Reply, Script, SqlFault, Statement, Tag, Terms};
 use al_sessions::How;
 use al_values::{NoMemory, Steps};
 use std::alloc::Global;
 use std::sync::ledger::Ledger;
 
-/// Goes on with the step in hand of a session that isn't held up, and counts the row versions that it reads. It tells whether its
-/// statement was refused.
+/// Goes on with the step in hand of a session that isn't held up, and counts the row versions that it reads. It tells what became of
+/// its statement.
 pub fn go_on<L: Ledger>(
     alloc: Global,
     terms: &Terms,
@@ -36,13 +37,13 @@ pub fn go_on<L: Ledger>(
     session: u32,
     state: Session,
     steps: &mut Steps<L>,
-) -> Result<bool, NoMemory>
+) -> Result<Outcome, NoMemory>
     requires known { session < terms.now.scripts.sessions }
     requires kept { IsKept terms.now (parts_of machine.old) }
     requires state { slice_get machine.old.sessions.list session ≡ Some state }
     requires goes { can_go_on (past_in machine.old) session ≡ true }
     ensures kept { OnOk result (IsKept terms.now (parts_of machine.new)) }
-    ensures went { IfOk result (λ refused. Went terms.now session (past_in machine.old) (past_in machine.new) refused (driver (past_in machine.old)) (IsLeast (past_in machine.old) session)) }
+    ensures went { IfOk result (λ outcome. Went terms.now session (past_in machine.old) (past_in machine.new) (is_refused outcome) (driver (past_in machine.old)) (IsLeast (past_in machine.old) session)) }
     ensures light { OnErr result (ends_block (statement_of terms.now state.hand state.done) ≡ false) }
     ensures err { OnErr result (IsSame (parts_of machine.old) (parts_of machine.new)) }
     ensures counted { steps.old ≤ steps.new }
@@ -51,20 +52,20 @@ pub fn go_on<L: Ledger>(
     match script_at(terms, state) {
         Err(fault) => {
             refuse(terms, machine, session, state, text_cause(*fault));
-            Ok(true)
+            Ok(Outcome::Refused)
         }
         Ok(script) => match script.get(state.done as usize) {
             None => {
                 finish(terms, machine, session, state);
-                Ok(false)
+                Ok(Outcome::WentOn)
             }
             Some(Statement::Commit) => {
                 end_block(terms, machine, session, state, true);
-                Ok(false)
+                Ok(Outcome::WentOn)
             }
             Some(Statement::Rollback) => {
                 end_block(terms, machine, session, state, false);
-                Ok(false)
+                Ok(Outcome::WentOn)
             }
             Some(other) => go_on_in_block(alloc, terms, machine, session, state, other, steps),
         },
@@ -105,7 +106,7 @@ fn go_on_in_block<L: Ledger>(
     state: Session,
     statement: &Statement,
     steps: &mut Steps<L>,
-) -> Result<bool, NoMemory>
+) -> Result<Outcome, NoMemory>
     requires known { session < terms.now.scripts.sessions }
     requires kept { IsKept terms.now (parts_of machine.old) }
     requires state { slice_get machine.old.sessions.list session ≡ Some state }
@@ -113,7 +114,7 @@ fn go_on_in_block<L: Ledger>(
     requires statement { statement_of terms.now state.hand state.done ≡ Some statement.now }
     requires goes_on { starts NoBlock statement.now ≡ true }
     ensures kept { OnOk result (IsKept terms.now (parts_of machine.new)) }
-    ensures went { IfOk result (λ refused. Went terms.now session (past_in machine.old) (past_in machine.new) refused (driver (past_in machine.old)) (IsLeast (past_in machine.old) session)) }
+    ensures went { IfOk result (λ outcome. Went terms.now session (past_in machine.old) (past_in machine.new) (is_refused outcome) (driver (past_in machine.old)) (IsLeast (past_in machine.old) session)) }
     ensures err { OnErr result (IsSame (parts_of machine.old) (parts_of machine.new)) }
     ensures counted { steps.old ≤ steps.new }
     ensures bounded { steps.new ≤ steps.old + row_entries (past_in machine.old) }
@@ -121,7 +122,7 @@ fn go_on_in_block<L: Ledger>(
     if let Block::Failed { refuse: place } = state.block {
         let cause = Cause::BlockFailed { refuse: place };
         refuse(terms, machine, session, state, cause);
-        return Ok(true);
+        return Ok(Outcome::Refused);
     }
     match state.xact {
         Some(xact) => run(
@@ -129,7 +130,7 @@ fn go_on_in_block<L: Ledger>(
         ),
         None => {
             begin(terms, machine, session, state)?;
-            Ok(false)
+            Ok(Outcome::WentOn)
         }
     }
 }
@@ -144,7 +145,7 @@ fn run<L: Ledger>(
     xact: u32,
     statement: &Statement,
     steps: &mut Steps<L>,
-) -> Result<bool, NoMemory>
+) -> Result<Outcome, NoMemory>
     requires known { session < terms.now.scripts.sessions }
     requires kept { IsKept terms.now (parts_of machine.old) }
     requires state { slice_get machine.old.sessions.list session ≡ Some state }
@@ -153,7 +154,7 @@ fn run<L: Ledger>(
     requires statement { statement_of terms.now state.hand state.done ≡ Some statement.now }
     requires goes_on { starts NoBlock statement.now ≡ true }
     ensures kept { OnOk result (IsKept terms.now (parts_of machine.new)) }
-    ensures went { IfOk result (λ refused. Went terms.now session (past_in machine.old) (past_in machine.new) refused (driver (past_in machine.old)) (IsLeast (past_in machine.old) session)) }
+    ensures went { IfOk result (λ outcome. Went terms.now session (past_in machine.old) (past_in machine.new) (is_refused outcome) (driver (past_in machine.old)) (IsLeast (past_in machine.old) session)) }
     ensures err { OnErr result (IsSame (parts_of machine.old) (parts_of machine.new)) }
     ensures counted { steps.old ≤ steps.new }
     ensures bounded { steps.new ≤ steps.old + row_entries (past_in machine.old) }
@@ -162,7 +163,7 @@ fn run<L: Ledger>(
         Statement::Commit | Statement::Rollback => unreachable!(),
         Statement::Begin => {
             begin_block(terms, machine, session, state);
-            Ok(false)
+            Ok(Outcome::WentOn)
         }
         Statement::CreateTable { table, columns } => create_table(
             alloc, terms, machine, session, state, xact, table, columns,

@@ -1,8 +1,7 @@
-use Rattle.std.proofs.Common.{ℕ, List, ◌+◌, ap, Some, slice_set, sym, ◌∙◌, arith}
+use Rattle.std.proofs.Common.{ℕ, ◌+◌, ap, Some, slice_set, sym, ◌∙◌, arith}
 use Rattle.al_history.specs.declared.entry.Want.TheVariants as wants
 use Rattle.al_engine.specs.Listed.{Listed}
 use Rattle.al_engine.specs.Kept.{Parts, parts_of}
-use Rattle.al_engine.specs.declared.sessions.Session.{Session}
 use Rattle.al_engine.proofs.Amid.{amid_begins}
 use Rattle.al_engine.proofs.AskLemmas.{over_uncut, asks_refused, AskedSo, none_asked, got_kept, got_went, queued_kept, queued_went, pushed, granted_so, queued_so}
 use Rattle.al_engine.proofs.Ties.{no_request}

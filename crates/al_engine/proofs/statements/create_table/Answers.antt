@@ -1,8 +1,7 @@
-use Rattle.std.proofs.Common.{◌+◌, List, ◌∷◌, ◌∙◌, ap, arith, length, refl, sym, Some, slice_set, true}
+use Rattle.std.proofs.Common.{◌+◌, ◌∷◌, ◌∙◌, ap, arith, length, refl, sym, Some, slice_set, true}
 use Rattle.al_history.specs.declared.entry.Entry.TheVariants.{Wait}
 use Rattle.al_history.specs.declared.entry.Want.TheVariants as wants
 use Rattle.al_history.specs.Past.{Past}
-use Rattle.al_engine.specs.declared.sessions.Session.{Session}
 use Rattle.al_engine.specs.Listed.{Listed}
 use Rattle.al_engine.specs.Kept.{parts_of}
 use Rattle.al_engine.proofs.StatementLemmas.{done_went, refused_went}

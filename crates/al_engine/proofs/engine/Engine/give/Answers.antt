@@ -1,5 +1,5 @@
 use Rattle.std.proofs.lemmas.Result.{err_from_is_err_and}
-use Rattle.std.proofs.Common.{◌∙◌, rules, arith, sym}
+use Rattle.std.proofs.Common.{◌∙◌, sym}
 use Rattle.al_engine.proofs.EngineLemmas.{hand_is, is_idle, none_of, same_keeps, give_keeps}
 use Rattle.al_engine.proofs.engine.Engine.give.Goals as goal
 

@@ -22,15 +22,15 @@ go_on-requires-clause-goes g c =
     goes _ _ c.self.invariant _ _ there c.if-is_none.ensures (sym c.if-is_held_up.ensures)
 
 pub invariant_of-self : goal.invariant_of-self
-invariant_of-self g c = same_keeps _ _ _ c.in_err-refused.ensures.err c.self.invariant
+invariant_of-self g c = same_keeps _ _ _ c.in_err-outcome.ensures.err c.self.invariant
 
 pub returns-clause-ok : goal.returns-clause-ok
 returns-clause-ok g c =
     let there = c.get-state.ensures in
-    rw (← c.self.view_is, c.len-from.ensures.past, c.len-to.ensures.past) (turn_went _ _ _ _ _ _ c.self.invariant there c.if-is_none.ensures (sym c.if-is_held_up.ensures) c.in_ok-refused.ensures.went (omega (arith, c.len-from.ensures.few, c.len-from.ensures.past)))
+    rw (← c.self.view_is, c.len-from.ensures.past, c.len-to.ensures.past) (turn_went _ _ _ _ _ _ c.self.invariant there c.if-is_none.ensures (sym c.if-is_held_up.ensures) c.in_ok-outcome.ensures.went (omega (arith, c.len-from.ensures.few, c.len-from.ensures.past)))
 
-pub returns-in_err-refused-clause-light : goal.returns-in_err-refused-clause-light
-returns-in_err-refused-clause-light g c =
+pub returns-in_err-outcome-clause-light : goal.returns-in_err-outcome-clause-light
+returns-in_err-outcome-clause-light g c =
     let there = c.get-state.ensures in
     let lack = err_from_is_err_and c.from_residual.result c.from_residual.ensures.1 in
-    rw (lack.1, ← c.self.view_is, statement_there _ _ c.self.invariant _ _ there c.if-is_none.ensures) c.in_err-refused.ensures.light
+    rw (lack.1, ← c.self.view_is, statement_there _ _ c.self.invariant _ _ there c.if-is_none.ensures) c.in_err-outcome.ensures.light

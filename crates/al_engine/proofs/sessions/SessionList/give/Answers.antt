@@ -1,4 +1,4 @@
-use Rattle.std.proofs.Common.{arith, ◌∙◌, sym}
+use Rattle.std.proofs.Common.{arith}
 use Rattle.al_engine.proofs.Joined.{within_beside, within_steps, free_step, give_list, give_keeps_controls}
 use Rattle.al_engine.proofs.sessions.SessionList.give.Goals as goal
 

@@ -1,4 +1,4 @@
-use Rattle.std.proofs.Common.{arith, refl, ◌∙◌, ap, ◌+◌, ℕ, ◌≤◌, length}
+use Rattle.std.proofs.Common.{arith, refl, ◌∙◌, ◌+◌, ◌≤◌, length}
 use Rattle.al_engine.proofs.Joined.{within_all, length_joined, light_take, light_next}
 use Rattle.al_engine.proofs.sessions.SessionList.light.Goals as goal
 

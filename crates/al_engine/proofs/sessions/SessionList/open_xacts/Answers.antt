@@ -1,4 +1,3 @@
-use Rattle.std.proofs.Common.{rules}
 use Rattle.al_engine.proofs.Joined.{xacts_joined}
 use Rattle.al_engine.proofs.sessions.SessionList.open_xacts.Goals as goal
 
