@@ -3,7 +3,8 @@ ghost use Rattle.std.specs.Prelude.{◌≡◌, ℕ, ◌<◌, ◌≤◌, ◌+◌,
 ghost use Rattle.al_history.specs.declared.run.Setup.TheVariants as setups;
 ghost use Rattle.al_history.specs.Hand.{hand, closed};
 ghost use Rattle.al_history.specs.Whole.{IsLeast, is_setup, each_block};
-ghost use Rattle.al_engine.specs.Ran.{Ran, IsLegalRun, IsTurned, is_refused};
+ghost use Rattle.al_engine.specs.Ran.{Ran, IsLegalRun, IsTurned};
+ghost use Rattle.al_engine.specs.Outcomes.{is_refused};
 ghost use Rattle.al_spec.specs.Keeps.{Each};
 ghost use Rattle.al_spec.specs.Sound.{IsStepAt};
 ghost use Rattle.al_app.specs.Runs.{journal_weight, IsRunnable, HasTurned, IsDriven, IsAtRest, HasRunBlock, CancelsIfBusy, IsNoneBusy, HasRunWhole, SetupRan, SetupSoFar, SetupGoesOn, StepsRan, SessionsCancelled, is_of, AreOpenFor, tasks_from, TeardownsRan, SessionsClosed, IsEnded, HasRunOne};
@@ -80,8 +81,7 @@ fn drive(alloc: Global, engine: &mut Engine) -> Result<bool, NoMemory>
         let Some(session) = engine.ready() else {
             return Ok(refused);
         };
-        let outcome = take_turn(alloc, engine, session)?;
-        refused |= outcome == Outcome::Refused;
+        refused |= take_turn(alloc, engine, session)?.is_refused();
     }
 }
 

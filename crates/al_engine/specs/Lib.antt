@@ -1,3 +1,4 @@
+pub mod Outcomes
 pub mod Ran
 pub mod Stored
 pub mod Sessions

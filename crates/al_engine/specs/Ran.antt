@@ -20,15 +20,9 @@ use Rattle.al_history.specs.declared.entry.Entry.{Entry}
 use Rattle.al_history.specs.Legal.{Legal}
 use Rattle.al_history.specs.Whole.{driver, failed_setup, or_else, of_setup, Task, closes, next_move, left_by, left, IsIdle, IsLeast, Driven}
 use Rattle.al_engine.specs.declared.told.Busy.{Busy}
-use Rattle.al_engine.specs.declared.told.Outcome.{Outcome}
-use Rattle.al_engine.specs.declared.told.Outcome.TheVariants as outcomes
+use Rattle.al_engine.specs.Outcomes.{is_refused}
 use Rattle.al_engine.specs.declared.told.Told.{Told}
 use Rattle.al_engine.specs.declared.told.Told.TheVariants as tells
-
--- whether a statement was refused
-abbrev pub is_refused : Outcome → Bool
-is_refused outcomes.WentOn = false
-is_refused outcomes.Refused = true
 
 pub record Ran : Type 0 where
   pub terms : Terms

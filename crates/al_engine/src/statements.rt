@@ -16,7 +16,7 @@ ghost use Rattle.al_history.specs.Whole.{driver, IsLeast};
 ghost use Rattle.al_history.specs.Waits.{can_go_on};
 ghost use Rattle.al_history.proofs.Turns.{Went};
 ghost use Rattle.al_engine.specs.Kept.{parts_of, past_in, IsKept, IsSame, CanBeRefused, Lacks, over_by};
-ghost use Rattle.al_engine.specs.Ran.{is_refused};
+ghost use Rattle.al_engine.specs.Outcomes.{is_refused};
 ghost use Rattle.al_engine.specs.Using.{mode_of, IsLocked, create_weight};
 ghost use Rattle.al_engine.specs.Creating.{taker_in, seen_in, limit_in, look_past};
 ghost use Rattle.al_engine.specs.Stored.{all_kept};

@@ -1,3 +1,6 @@
+ghost use Rattle.std.specs.Prelude.{◌≡◌};
+ghost use Rattle.al_engine.specs.Outcomes.{is_refused};
+
 /// The session has a step in hand, so it can't be given another.
 #[derive(Clone, Copy, Debug, PartialEq, Eq)]
 pub struct Busy;
@@ -9,6 +12,18 @@ pub enum Outcome {
     WentOn,
     /// It was refused, and its step has ended.
     Refused,
+}
+
+impl Outcome {
+    /// Whether it was refused.
+    pub fn is_refused(self) -> bool
+        ensures { result ≡ is_refused self }
+    {
+        match self {
+            Outcome::WentOn => false,
+            Outcome::Refused => true,
+        }
+    }
 }
 
 /// What a turn of a session did.

@@ -14,7 +14,8 @@ ghost use Rattle.al_engine.specs.declared.sessions.Block.TheVariants as blocks;
 ghost use Rattle.al_sessions.specs.declared.step.How.TheVariants as hows;
 ghost use Rattle.al_engine.specs.Sessions.{state_of, passed};
 ghost use Rattle.al_engine.specs.Listed.{KeepsControls, IsAfter};
-ghost use Rattle.al_engine.specs.Ran.{ends_block, is_refused};
+ghost use Rattle.al_engine.specs.Ran.{ends_block};
+ghost use Rattle.al_engine.specs.Outcomes.{is_refused};
 ghost use Rattle.al_engine.specs.Ended.{IsEnded};
 ghost use Rattle.al_engine.specs.Kept.{parts_of, past_in, IsKept, IsSame};
 
