@@ -1,4 +1,6 @@
 mod EndLaws
-mod Places
-mod Kepts
+mod Nearest
+mod Indexing
+mod Ends
+mod Found
 mod Vectors

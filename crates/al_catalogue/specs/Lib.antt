@@ -1,3 +1,4 @@
 pub mod Tables
 pub mod Names
 pub mod Changes
+pub mod Indexed

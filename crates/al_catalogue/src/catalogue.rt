@@ -1,17 +1,23 @@
-ghost use Rattle.std.specs.Prelude.{◌≡◌, ℕ, [], true, map, IfOk, OnOk, OnErr};
+ghost use Rattle.std.specs.Prelude.{ℕ, ◌≡◌, ◌<◌, ◌∷◌, ◌++◌, [], Some, None, true, map, length, IfOk, OnOk, OnErr};
 ghost use Rattle.std.specs.Option.{option_copied};
 ghost use Rattle.al_xacts.specs.declared.xact.Fate.TheVariants as fates;
 ghost use Rattle.al_tree.specs.Links.{has_link};
 ghost use Rattle.al_catalogue.specs.Tables.{entry_of, is_parent};
-ghost use Rattle.al_catalogue.specs.Names.{find_in, claim_in};
+ghost use Rattle.al_catalogue.specs.Names.{find_in, claim_in, taker_in};
 ghost use Rattle.al_catalogue.specs.Changes.{is_free_for, IsNameFree, changed, ended};
+ghost use Rattle.al_catalogue.specs.Indexed.{at_place, numbers_of, place_in, with_own};
 
-use crate::lookup::{end, entry_of, find_in, is_free_for, note_all, place_of, taker_in};
-use crate::{Claimed, Kept, Own, TableEntry};
+use crate::changes::{change_at, end_all, first_change, list_name, list_owner};
+use crate::lookup::{is_mine_at, note_all, number_at, seen_at, taker_at};
+use crate::names::named;
+use crate::search::{Sought, first_among};
+use crate::{Claimed, Kept, Own, Places, TableEntry};
 use al_tree::Tree;
 use al_values::{Name, NoMemory};
 use al_xacts::{Fate, Xact};
+use indexmap::IndexMap;
 use std::alloc::Global;
+use std::collections::HashMap;
 use std::marker::Model;
 
 /// The tables: of each what is committed, and an open transaction's own change. Contracts see the list of what is kept, a table
@@ -19,11 +25,19 @@ use std::marker::Model;
 #[derive(Debug, Drop)]
 pub struct Catalogue {
     tables: Vec<Kept>,
+    // The place of each table by its number.
+    numbers: HashMap<u32, usize>,
+    // For each name the places of the tables that have it, by what is committed or by an open transaction's change.
+    names: IndexMap<String, Places>,
+    // For each open transaction the places of the tables that it has changed.
+    owners: HashMap<u32, Places>,
 }
 
 impl Model for Catalogue {
-    ghost use Rattle.std.specs.Prelude.{List};
+    ghost use Rattle.std.specs.Prelude.{List, nat_eq};
+    ghost use Rattle.std.specs.Map.{lookup};
     ghost use Rattle.al_catalogue.specs.declared.entry.Kept.{Kept};
+    ghost use Rattle.al_catalogue.specs.Indexed.{IsIndexed, named_in, owned_in};
     ghost use Rattle.al_expr.specs.contracts.tree.Expr as e;
     ghost use Rattle.std.specs.Coded.{codes};
 
@@ -32,6 +46,8 @@ impl Model for Catalogue {
     ghost coded = { Prim.hlevel (codes, e.the_row.coded) };
 
     ghost view = { λ c. c.tables.items };
+
+    ghost invariant = { λ c. IsIndexed c.tables.items (λ number. lookup (nat_eq number) c.numbers.entries) (named_in c.names) (owned_in c.owners.entries) };
 }
 
 impl Catalogue {
@@ -41,6 +57,9 @@ impl Catalogue {
     {
         Catalogue {
             tables: Vec::new(alloc),
+            numbers: HashMap::new(alloc),
+            names: IndexMap::new(alloc),
+            owners: HashMap::new(alloc),
         }
     }
 
@@ -48,7 +67,22 @@ impl Catalogue {
     pub fn find(&self, name: &Name, x: Xact) -> Option<u32>
         ensures { result ≡ find_in self.now name.now x }
     {
-        find_in(&self.tables, name, x)
+        let places = named(&self.names, name);
+        match first_among(Sought::Found, name, x, &self.tables, places) {
+            Some(at) => number_at(&self.tables, at),
+            None => None,
+        }
+    }
+
+    // The other transaction that made, dropped or renamed a table of a name, where there is one.
+    fn taker(&self, name: &Name, x: Xact) -> Option<Xact>
+        ensures { result ≡ taker_in self.now name.now x }
+    {
+        let places = named(&self.names, name);
+        match first_among(Sought::Moved, name, x, &self.tables, places) {
+            Some(at) => taker_at(&self.tables, at, name, x),
+            None => None,
+        }
     }
 
     /// Whether a transaction can have a name for a table. It is Open exactly where another open transaction made, dropped or
@@ -56,8 +90,8 @@ impl Catalogue {
     pub fn claim(&self, name: &Name, x: Xact) -> Claimed
         ensures { result ≡ claim_in self.now name.now x }
     {
-        let taker = taker_in(&self.tables, name, x);
-        let found = find_in(&self.tables, name, x);
+        let taker = self.taker(name, x);
+        let found = self.find(name, x);
         match taker {
             Some(by) => Claimed::Open { by },
             None => match found {
@@ -67,11 +101,21 @@ impl Catalogue {
         }
     }
 
+    // The place of a table.
+    fn place_of(&self, table: u32) -> Option<usize>
+        ensures { result ≡ place_in (numbers_of self.now) table }
+    {
+        self.numbers.get(&table).copied()
+    }
+
     /// The table of a number, among what is committed and the transaction's own changes.
     pub fn entry(&self, table: u32, x: Xact) -> Option<&TableEntry>
         ensures { option_copied result ≡ entry_of self.now table x }
     {
-        entry_of(&self.tables, table, x)
+        match self.place_of(table) {
+            Some(at) => seen_at(&self.tables, at, x),
+            None => None,
+        }
     }
 
     /// The links of the tables to their parents, among what is committed and the transaction's own changes.
@@ -91,7 +135,10 @@ impl Catalogue {
     pub fn can_change(&self, table: u32, x: Xact) -> bool
         ensures { result ≡ is_free_for self.now table x }
     {
-        is_free_for(&self.tables, table, x)
+        match self.place_of(table) {
+            Some(at) => is_mine_at(&self.tables, at, x),
+            None => true,
+        }
     }
 
     /// A transaction's own change of a table; None drops it.
@@ -111,37 +158,70 @@ impl Catalogue {
         ensures ok { OnOk result (self.new ≡ changed x table entry self.old) }
         ensures err { OnErr result (self.new ≡ self.old) }
     {
-        let own = Some(Own { xact: x, entry });
-        match place_of(table, &self.tables) {
-            Some(at) => {
-                self.tables[at].own = own;
-                Ok(())
-            }
-            None => {
-                self.tables.push(Kept {
-                    number: table,
-                    committed: None,
-                    own,
-                })?;
-                Ok(())
-            }
+        match self.place_of(table) {
+            Some(at) => self.change(alloc, x, at, entry),
+            None => self.add(alloc, x, table, entry),
         }
     }
 
-    /// Makes a transaction's changes committed, or takes them back.
+    // A change of the table at a place.
+    fn change(
+        &mut self,
+        alloc: Global,
+        x: Xact,
+        at: usize,
+        entry: Option<TableEntry>,
+    ) -> Result<(), NoMemory>
+        requires { at < length self.old }
+        ensures ok { OnOk result (self.new ≡ at_place (with_own (record { xact = x; entry = entry })) at self.old) }
+        ensures err { OnErr result (self.new ≡ self.old) }
+    {
+        list_owner(alloc, &mut self.owners, &self.tables, x, at)?;
+        list_name(alloc, &mut self.names, at, &entry)?;
+        change_at(
+            &mut self.tables,
+            &mut self.names,
+            at,
+            Own { xact: x, entry },
+        );
+        Ok(())
+    }
+
+    // The first change of a table.
+    fn add(
+        &mut self,
+        alloc: Global,
+        x: Xact,
+        table: u32,
+        entry: Option<TableEntry>,
+    ) -> Result<(), NoMemory>
+        requires { place_in (numbers_of self.old) table ≡ None }
+        ensures ok { OnOk result (self.new ≡ self.old ++ record { number = table; committed = None; own = Some (record { xact = x; entry = entry }) } ∷ []) }
+        ensures err { OnErr result (self.new ≡ self.old) }
+    {
+        let at = self.tables.len();
+        self.tables.reserve(1)?;
+        list_owner(alloc, &mut self.owners, &self.tables, x, at)?;
+        list_name(alloc, &mut self.names, at, &entry)?;
+        self.numbers.insert(table, at)?;
+        self.tables
+            .push_reserved(first_change(table, Own { xact: x, entry }));
+        Ok(())
+    }
+
+    /// Makes a transaction's changes committed, or takes them back. It takes no memory, and the time of its own changes.
     pub fn finish(&mut self, x: Xact, fate: Fate)
         requires { fate ≡ fates.Open → ⊥ }
         ensures { self.new ≡ map (ended x fate) self.old }
     {
-        end_all(&mut self.tables, x, fate);
-    }
-}
-
-/// Ends a transaction's changes.
-fn end_all(tables: &mut Vec<Kept>, x: Xact, fate: Fate)
-    ensures { tables.new.items ≡ map (ended x fate) tables.old.items }
-{
-    for at in 0..tables.len() {
-        end(&mut tables[at], x, fate);
+        if let Some(places) = self.owners.remove(&x.number()) {
+            end_all(
+                &mut self.tables,
+                &mut self.names,
+                places.as_slice(),
+                x,
+                fate,
+            );
+        }
     }
 }

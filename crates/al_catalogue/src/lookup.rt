@@ -1,23 +1,18 @@
-ghost use Rattle.std.specs.Prelude.{◌≡◌, ◌==◌, ◌||◌, ◌&&◌, ℕ, position, IfOk, OnOk};
-ghost use Rattle.std.specs.Option.{option_copied};
+ghost use Rattle.std.specs.Prelude.{◌≡◌, ◌==◌, ◌||◌, ◌&&◌, ℕ, true, OnOk, slice_get};
+ghost use Rattle.std.specs.Option.{option_copied, option_map, option_map_or, option_and_then};
 ghost use Rattle.std.specs.List.{list_any};
 ghost use Rattle.al_tree.specs.Links.{has_link};
-ghost use Rattle.al_catalogue.specs.Tables.{seen, entry_of, has_parent, is_parent};
-ghost use Rattle.al_catalogue.specs.Names.{is_called, find_in, moves_name, taker_of, taker_in};
-ghost use Rattle.al_catalogue.specs.Changes.{ended, is_mine, is_free_for};
+ghost use Rattle.al_catalogue.specs.Tables.{seen, has_parent, is_parent};
+ghost use Rattle.al_catalogue.specs.Names.{is_called, moves_name, taker_of};
+ghost use Rattle.al_catalogue.specs.Changes.{ended, is_mine};
+ghost use Rattle.al_catalogue.specs.Indexed.{is_own, own_called, has_name};
 
 use crate::{Kept, Own, TableEntry};
 use al_tree::Tree;
 use al_values::{Name, NoMemory};
 use al_xacts::{Fate, Xact};
 use std::alloc::Global;
-
-/// The place of a table.
-pub(crate) fn place_of(table: u32, tables: &[Kept]) -> Option<usize>
-    ensures { result ≡ position (λ kept. kept.number == table) tables.now }
-{
-    tables.iter().position(|kept| kept.number == table)
-}
+use std::mem;
 
 /// A table as a transaction finds it.
 pub(crate) fn seen(x: Xact, kept: &Kept) -> Option<&TableEntry>
@@ -29,19 +24,7 @@ pub(crate) fn seen(x: Xact, kept: &Kept) -> Option<&TableEntry>
     }
 }
 
-/// The table of a number, as a transaction finds it.
-pub(crate) fn entry_of(tables: &[Kept], table: u32, x: Xact) -> Option<&TableEntry>
-    ensures { option_copied result ≡ entry_of tables.now table x }
-{
-    for kept in tables {
-        if kept.number == table {
-            return seen(x, kept);
-        }
-    }
-    None
-}
-
-fn is_called(name: &Name, entry: Option<&TableEntry>) -> bool
+pub(crate) fn is_called(name: &Name, entry: Option<&TableEntry>) -> bool
     ensures { result ≡ is_called name.now (option_copied entry.entry) }
 {
     match entry {
@@ -50,20 +33,8 @@ fn is_called(name: &Name, entry: Option<&TableEntry>) -> bool
     }
 }
 
-/// The first table that has a name, as a transaction finds it.
-pub(crate) fn find_in(tables: &[Kept], name: &Name, x: Xact) -> Option<u32>
-    ensures { result ≡ find_in tables.now name.now x }
-{
-    for kept in tables {
-        if is_called(name, seen(x, kept)) {
-            return Some(kept.number);
-        }
-    }
-    None
-}
-
 /// The other transaction that makes a name come or go at a table.
-fn taker_of(name: &Name, x: Xact, kept: &Kept) -> Option<Xact>
+pub(crate) fn taker_of(name: &Name, x: Xact, kept: &Kept) -> Option<Xact>
     ensures { result ≡ taker_of name.now x kept.now.committed kept.now.own }
 {
     match &kept.own {
@@ -80,34 +51,49 @@ fn taker_of(name: &Name, x: Xact, kept: &Kept) -> Option<Xact>
     }
 }
 
-/// The other transaction that made, dropped or renamed a table of a name, where there is one.
-pub(crate) fn taker_in(tables: &[Kept], name: &Name, x: Xact) -> Option<Xact>
-    ensures { result ≡ taker_in tables.now name.now x }
-{
-    for kept in tables {
-        if let Some(by) = taker_of(name, x, kept) {
-            return Some(by);
-        }
-    }
-    None
-}
-
-/// A table once a transaction has ended.
-pub(crate) fn end(kept: &mut Kept, x: Xact, fate: Fate)
+/// Ends a transaction's change of a table, and gives what isn't kept of it any more.
+pub(crate) fn end(kept: &mut Kept, x: Xact, fate: Fate) -> Option<TableEntry>
     ensures { kept.new ≡ ended x fate kept.old }
 {
-    let is_own = match &kept.own {
+    if !is_own(x, kept) {
+        return None;
+    }
+    match kept.own.take() {
+        Some(own) => {
+            if fate == Fate::Committed {
+                mem::replace(&mut kept.committed, own.entry)
+            } else {
+                own.entry
+            }
+        }
+        None => None,
+    }
+}
+
+/// Whether a transaction has changed a table.
+pub(crate) fn is_own(x: Xact, kept: &Kept) -> bool
+    ensures { result ≡ is_own x kept.now }
+{
+    match &kept.own {
         Some(own) => own.xact == x,
         None => false,
-    };
-    if !is_own {
-        return;
     }
-    if let Some(own) = kept.own.take() {
-        if fate == Fate::Committed {
-            kept.committed = own.entry;
-        }
+}
+
+fn own_called(name: &Name, own: &Option<Own>) -> bool
+    ensures { result ≡ own_called name.now own.now }
+{
+    match own {
+        Some(own) => is_called(name, own.entry.as_ref()),
+        None => false,
     }
+}
+
+/// Whether a table is called so by what is committed, or by an open transaction's change.
+pub(crate) fn has_name(name: &Name, kept: &Kept) -> bool
+    ensures { result ≡ has_name name.now kept.now }
+{
+    is_called(name, kept.committed.as_ref()) || own_called(name, &kept.own)
 }
 
 /// Notes the parents of a table.
@@ -142,7 +128,8 @@ pub(crate) fn note_all(
     Ok(())
 }
 
-fn is_mine(x: Xact, own: &Option<Own>) -> bool
+/// Whether nobody else has a change of a table.
+pub(crate) fn is_mine(x: Xact, own: &Option<Own>) -> bool
     ensures { result ≡ is_mine x own.now }
 {
     match own {
@@ -151,14 +138,42 @@ fn is_mine(x: Xact, own: &Option<Own>) -> bool
     }
 }
 
-/// Whether no other transaction has a change of a table.
-pub(crate) fn is_free_for(tables: &[Kept], table: u32, x: Xact) -> bool
-    ensures { result ≡ is_free_for tables.now table x }
+/// The number of the table at a place.
+pub(crate) fn number_at(tables: &[Kept], at: usize) -> Option<u32>
+    ensures { result ≡ option_map (λ kept. kept.number) (slice_get tables.now at) }
 {
-    for kept in tables {
-        if kept.number == table {
-            return is_mine(x, &kept.own);
-        }
+    match tables.get(at) {
+        Some(kept) => Some(kept.number),
+        None => None,
     }
-    true
+}
+
+/// The table at a place, as a transaction finds it.
+pub(crate) fn seen_at(tables: &[Kept], at: usize, x: Xact) -> Option<&TableEntry>
+    ensures { option_copied result ≡ option_and_then (seen x) (slice_get tables.now at) }
+{
+    match tables.get(at) {
+        Some(kept) => seen(x, kept),
+        None => None,
+    }
+}
+
+/// The other transaction that makes a name come or go at a place.
+pub(crate) fn taker_at(tables: &[Kept], at: usize, name: &Name, x: Xact) -> Option<Xact>
+    ensures { result ≡ option_and_then (λ kept. taker_of name.now x kept.committed kept.own) (slice_get tables.now at) }
+{
+    match tables.get(at) {
+        Some(kept) => taker_of(name, x, kept),
+        None => None,
+    }
+}
+
+/// Whether nobody else has a change of the table at a place.
+pub(crate) fn is_mine_at(tables: &[Kept], at: usize, x: Xact) -> bool
+    ensures { result ≡ option_map_or (λ kept. is_mine x kept.own) (slice_get tables.now at) true }
+{
+    match tables.get(at) {
+        Some(kept) => is_mine(x, &kept.own),
+        None => true,
+    }
 }

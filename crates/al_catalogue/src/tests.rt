@@ -100,6 +100,29 @@ fn names(rt: HostRuntime) -> Result<(), Fail> {
     Ok(())
 }
 
+// A table that is renamed twice by one transaction has the last name alone, and its first name is free for another table.
+#[test]
+fn renamed_twice(rt: HostRuntime) -> Result<(), Fail> {
+    let alloc = rt.alloc();
+    let mut xacts = Xacts::new(alloc, 1)?;
+    let a = start(alloc, &mut xacts)?;
+    let b = start(alloc, &mut xacts)?;
+    let mut catalogue = Catalogue::new(alloc);
+    put(alloc, &mut catalogue, a, 1, entry(alloc, "t", 9)?)?;
+    put(alloc, &mut catalogue, a, 1, entry(alloc, "v", 9)?)?;
+    assert_eq!(rt; has_name(alloc, &catalogue, b, "t")?, Claimed::Free);
+    put(alloc, &mut catalogue, b, 2, entry(alloc, "t", 9)?)?;
+    catalogue.finish(a, Fate::Committed);
+    assert_eq!(rt; catalogue.find(&name(alloc, "v")?, b), Some(1));
+    assert_eq!(rt; catalogue.find(&name(alloc, "t")?, b), Some(2));
+    assert_eq!(rt; catalogue.find(&name(alloc, "t")?, a), None);
+    catalogue.finish(b, Fate::Aborted);
+    assert_eq!(rt; has_name(alloc, &catalogue, b, "t")?, Claimed::Free);
+    assert!(rt; catalogue.entry(2, b).is_none());
+    assert!(rt; catalogue.entry(1, b).is_some());
+    Ok(())
+}
+
 #[test]
 fn links(rt: HostRuntime) -> Result<(), Fail> {
     let alloc = rt.alloc();

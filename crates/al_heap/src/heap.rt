@@ -211,8 +211,7 @@ impl Heap {
         ensures { IfSome (slice_get self.old place) (λ version. self.new ≡ slice_set self.old place (removed x number version)) }
     {
         let version = &mut self.versions[place as usize];
-        version.remover = Some(x);
-        version.removal = number;
+        note_removal(version, x, number);
     }
 
     /// Whether a snapshot sees the version at a place: it sees the maker, and it doesn't see who removed the version last.
@@ -240,4 +239,12 @@ impl Heap {
     {
         *self = heap;
     }
+}
+
+/// Notes who has removed a version, and under which number.
+fn note_removal(version: &mut Stored, x: Xact, number: u32)
+    ensures { version.new ≡ removed x number version.old }
+{
+    version.remover = Some(x);
+    version.removal = number;
 }

@@ -1,4 +1,4 @@
-ghost use Rattle.std.specs.Prelude.{◌≡◌, [], ◌∷◌, IfOk, OnOk, OnErr};
+ghost use Rattle.std.specs.Prelude.{◌≡◌, [], ◌∷◌, Some, IfOk, OnOk, OnErr};
 ghost use Rattle.al_keys.specs.Keys.{made, with_version, left_by};
 
 use crate::KeyVersion;
@@ -65,9 +65,16 @@ impl VersionList {
     {
         if let Some(place) = last_standing(&self.items, row, xacts) {
             let version = &mut self.items[place];
-            version.remover = Some(x);
+            note_remover(version, x);
         }
     }
+}
+
+/// Notes who has removed a version.
+fn note_remover(version: &mut KeyVersion, x: Xact)
+    ensures { version.new ≡ record version.old { remover = Some x } }
+{
+    version.remover = Some(x);
 }
 
 /// A key with its versions.

@@ -1,4 +1,5 @@
 mod Places
+mod Bisected
 mod Sorted
 mod LineLemmas
 mod Marking

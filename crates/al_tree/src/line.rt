@@ -1,7 +1,7 @@
-ghost use Rattle.std.specs.Prelude.{◌≡◌, [], ◌≤◌, ◌==◌, length, nat_lt, position, if◌then◌else◌, OnOk, OnErr};
+ghost use Rattle.std.specs.Prelude.{◌≡◌, [], ◌≤◌, ◌==◌, length, nat_le, nat_lt, position, if◌then◌else◌, OnOk, OnErr};
 ghost use Rattle.std.specs.List.{position_or_len};
-ghost use Rattle.al_tree.specs.Ascending.{is_among, put, without};
-ghost use Rattle.al_tree.specs.Lines.{has_line, put_line, with_children};
+ghost use Rattle.al_tree.specs.Ascending.{Ascends, is_among, put, without};
+ghost use Rattle.al_tree.specs.Lines.{AllAscend, has_line, put_line, tables_of, with_children};
 
 use al_values::{IdList, ListOf, NoMemory};
 use std::alloc::Global;
@@ -16,33 +16,42 @@ pub struct Line {
     pub children: IdList,
 }
 
-/// The place of a table's line, where it has one.
-pub(crate) fn line_of(table: u32, lines: &[Line]) -> Option<usize>
-    ensures { result ≡ position (λ line. line.table == table) lines.now }
+/// Whether a number isn't above another.
+fn is_up_to(other: u32, number: u32) -> bool
+    ensures { result ≡ nat_le other number }
 {
-    lines.iter().position(|line| line.table == table)
+    other <= number
 }
 
-/// The place of the first line of a table above one, where there is one.
-fn line_above(table: u32, lines: &[Line]) -> Option<usize>
-    ensures { result ≡ position (λ line. nat_lt table line.table) lines.now }
-{
-    lines.iter().position(|line| table < line.table)
-}
-
-/// The place of the first line of a table above one, or the length.
+/// The place of the first line of a table above one, or the length, by bisection.
 fn place_for(table: u32, lines: &[Line]) -> usize
+    requires { Ascends (tables_of lines.now) }
     ensures value { result ≡ position_or_len (λ line. nat_lt table line.table) lines.now }
     ensures within { result ≤ length lines.now }
 {
-    match line_above(table, lines) {
-        Some(at) => at,
-        None => lines.len(),
+    lines.partition_point(|line| is_up_to(line.table, table))
+}
+
+/// The place of a table's line, where it has one.
+pub(crate) fn line_of(table: u32, lines: &[Line]) -> Option<usize>
+    requires { Ascends (tables_of lines.now) }
+    ensures { result ≡ position (λ line. line.table == table) lines.now }
+{
+    let above = place_for(table, lines);
+    if above == 0 {
+        return None;
+    }
+    let at = above - 1;
+    if lines[at].table == table {
+        Some(at)
+    } else {
+        None
     }
 }
 
 /// Gives a table a line, where it has none.
 pub(crate) fn add_line(alloc: Global, lines: &mut Vec<Line>, table: u32) -> Result<(), NoMemory>
+    requires { Ascends (tables_of lines.old.items) }
     ensures ok { OnOk result (lines.new.items ≡ (if has_line lines.old.items table then lines.old.items else put_line (record { table = table; children = [] }) lines.old.items)) }
     ensures err { OnErr result (lines.new.items ≡ lines.old.items) }
 {
@@ -58,26 +67,18 @@ pub(crate) fn add_line(alloc: Global, lines: &mut Vec<Line>, table: u32) -> Resu
     Ok(())
 }
 
-/// The place of the first number above one, where there is one.
-fn number_above(number: u32, numbers: &[u32]) -> Option<usize>
-    ensures { result ≡ position (λ other. nat_lt number other) numbers.now }
-{
-    numbers.iter().position(|other| number < *other)
-}
-
-/// The place of the first number above one, or the length.
+/// The place of the first number above one, or the length, by bisection.
 fn number_place(number: u32, numbers: &[u32]) -> usize
+    requires { Ascends numbers.now }
     ensures value { result ≡ position_or_len (λ other. nat_lt number other) numbers.now }
     ensures within { result ≤ length numbers.now }
 {
-    match number_above(number, numbers) {
-        Some(at) => at,
-        None => numbers.len(),
-    }
+    numbers.partition_point(|other| is_up_to(*other, number))
 }
 
 /// A number more in a vector.
 fn put(numbers: &mut Vec<u32>, number: u32) -> Result<(), NoMemory>
+    requires { Ascends numbers.old.items }
     ensures ok { OnOk result (numbers.new.items ≡ put number numbers.old.items) }
     ensures err { OnErr result (numbers.new.items ≡ numbers.old.items) }
 {
@@ -95,6 +96,7 @@ fn cut(numbers: &mut Vec<u32>, number: u32)
 
 /// A child more.
 fn put_child(alloc: Global, children: &mut IdList, child: u32) -> Result<(), NoMemory>
+    requires { Ascends children.old }
     ensures ok { OnOk result (children.new ≡ put child children.old) }
     ensures err { OnErr result (children.new ≡ children.old) }
 {
@@ -120,6 +122,8 @@ pub(crate) fn add_child(
     child: u32,
     parent: u32,
 ) -> Result<(), NoMemory>
+    requires tables { Ascends (tables_of lines.old.items) }
+    requires children { AllAscend lines.old.items }
     ensures ok { OnOk result (lines.new.items ≡ with_children parent (put child) lines.old.items) }
     ensures err { OnErr result (lines.new.items ≡ lines.old.items) }
 {
@@ -131,6 +135,7 @@ pub(crate) fn add_child(
 
 /// Takes a child from a table.
 pub(crate) fn cut_line(alloc: Global, lines: &mut Vec<Line>, child: u32, parent: u32)
+    requires { Ascends (tables_of lines.old.items) }
     ensures { lines.new.items ≡ with_children parent (without child) lines.old.items }
 {
     if let Some(at) = line_of(parent, lines) {
@@ -138,9 +143,14 @@ pub(crate) fn cut_line(alloc: Global, lines: &mut Vec<Line>, child: u32, parent:
     }
 }
 
-/// Whether a number is among others.
+/// Whether a number is among others, by bisection.
 pub(crate) fn is_among(number: u32, numbers: &[u32]) -> bool
+    requires { Ascends numbers.now }
     ensures { result ≡ is_among number numbers.now }
 {
-    numbers.iter().any(|other| *other == number)
+    let above = number_place(number, numbers);
+    if above == 0 {
+        return false;
+    }
+    numbers[above - 1] == number
 }

@@ -1,6 +1,7 @@
 ghost use Rattle.std.specs.Prelude.{◌≡◌, ℕ, [], ◌∷◌, ◌++◌, ◌≤◌, ◌<◌, ◌↔◌, true, false, IfOk, OnOk, length, fold, replicate};
 ghost use Rattle.al_tree.specs.Links.{Descends};
-ghost use Rattle.al_tree.specs.Lines.{AreLines, links_in};
+ghost use Rattle.al_tree.specs.Ascending.{Ascends};
+ghost use Rattle.al_tree.specs.Lines.{AreLines, links_in, tables_of};
 ghost use Rattle.al_tree.specs.Marks.{MarkOf, found, marked, work, chosen};
 
 use crate::Line;
@@ -12,16 +13,13 @@ use std::alloc::Global;
 fn no_marks(alloc: Global, lines: &[Line]) -> Result<Vec<bool>, NoMemory>
     ensures { IfOk result (λ marks. marks.items ≡ replicate (length lines.now) false) }
 {
-    let mut marks = Vec::with_capacity(alloc, lines.len())?;
-    for _line in lines {
-        marks.push(false)?;
-    }
-    Ok(marks)
+    Ok(vec![in alloc; false; lines.len()]?)
 }
 
 /// Whether a table can still be marked: the place of its mark.
 fn mark_of(table: u32, lines: &[Line], marks: &[bool]) -> Option<usize>
-    requires { length marks.now ≡ length lines.now }
+    requires len { length marks.now ≡ length lines.now }
+    requires ascends { Ascends (tables_of lines.now) }
     ensures { MarkOf lines.now marks.now table result }
 {
     match line_of(table, lines) {
@@ -32,7 +30,8 @@ fn mark_of(table: u32, lines: &[Line], marks: &[bool]) -> Option<usize>
 
 /// Marks a table that isn't marked yet; its children are to be looked at then.
 fn find(table: u32, lines: &[Line], marks: &mut [bool], todo: &mut Vec<u32>) -> Result<(), NoMemory>
-    requires { length marks.old ≡ length lines.now }
+    requires len { length marks.old ≡ length lines.now }
+    requires ascends { Ascends (tables_of lines.now) }
     ensures ok { OnOk result (found lines.now (record { marks = marks.old; todo = todo.old.items }) table ≡ record { marks = marks.new; todo = todo.new.items }) }
     ensures work { OnOk result (work marks.new todo.new.items ≤ work marks.old todo.old.items) }
 {
@@ -50,7 +49,8 @@ fn find_each(
     marks: &mut [bool],
     todo: &mut Vec<u32>,
 ) -> Result<(), NoMemory>
-    requires { length marks.old ≡ length lines.now }
+    requires len { length marks.old ≡ length lines.now }
+    requires ascends { Ascends (tables_of lines.now) }
     ensures ok { OnOk result (fold (found lines.now) (record { marks = marks.old; todo = todo.old.items }) tables.now ≡ record { marks = marks.new; todo = todo.new.items }) }
     ensures work { OnOk result (work marks.new todo.new.items ≤ work marks.old todo.old.items) }
 {
@@ -79,7 +79,8 @@ pub(crate) fn descendants(alloc: Global, lines: &[Line], table: u32) -> Result<V
 
 /// Whether a table is marked.
 pub(crate) fn is_marked(table: u32, lines: &[Line], marks: &[bool]) -> bool
-    requires { length marks.now ≡ length lines.now }
+    requires len { length marks.now ≡ length lines.now }
+    requires ascends { Ascends (tables_of lines.now) }
     ensures { result ≡ marked lines.now marks.now table }
 {
     match line_of(table, lines) {

@@ -17,4 +17,4 @@ returns-in-Some c =
     let v : KeyVersion = c.index_mut-version.result.now in
     let found : standing c.args.xacts.now.transactions vs c.args.row ≡ Some c.in-Some.place = sym (rw c.deref.ensures.value at c.last_standing.ensures) ∙ c.in-Some.is in
     let got : slice_get vs c.in-Some.place ≡ Some v = slice_get_read vs (length vs) c.in-Some.place v refl (place-below (is_standing c.args.xacts.now.transactions c.args.row) vs (length vs) c.in-Some.place found) c.index_mut-version.ensures.value in
-    rw (← c.self.view_is) (sym (left-said c.args.xacts.now.transactions c.args.x c.args.row vs c.in-Some.place v found got))
+    rw (← c.self.view_is, c.note_remover.ensures) (sym (left-said c.args.xacts.now.transactions c.args.x c.args.row vs c.in-Some.place v found got))

@@ -43,3 +43,20 @@ returns-clause-err c =
     let two : Lined c.add_line.new.lines.items c.add_line-2.new.lines.items c.args.parent = lined _ _ _ c.in_ok-add_line-2.ensures.ok one.are in
     let n : Noted c.args.self.now c.add_line-2.new.lines.items c.args.child c.args.parent = noted _ _ _ _ _ _ c.self.invariant.0 c.self.view_is out one two in
     on_err_weaker c.add_child.result (λ e. ap links_in e ∙ n.same) c.add_child.ensures.err
+
+pub add_line-requires-2 : goal.add_line-requires-2
+add_line-requires-2 c =
+    let one : Lined c.self.inside.lines.items c.add_line.new.lines.items c.args.child = lined _ _ _ c.in_ok-add_line.ensures.ok c.self.invariant.0 in
+    one.are.tables
+
+pub add_child-requires-clause-tables : goal.add_child-requires-clause-tables
+add_child-requires-clause-tables c =
+    let one : Lined c.self.inside.lines.items c.add_line.new.lines.items c.args.child = lined _ _ _ c.in_ok-add_line.ensures.ok c.self.invariant.0 in
+    let two : Lined c.add_line.new.lines.items c.add_line-2.new.lines.items c.args.parent = lined _ _ _ c.in_ok-add_line-2.ensures.ok one.are in
+    two.are.tables
+
+pub add_child-requires-clause-children : goal.add_child-requires-clause-children
+add_child-requires-clause-children c =
+    let one : Lined c.self.inside.lines.items c.add_line.new.lines.items c.args.child = lined _ _ _ c.in_ok-add_line.ensures.ok c.self.invariant.0 in
+    let two : Lined c.add_line.new.lines.items c.add_line-2.new.lines.items c.args.parent = lined _ _ _ c.in_ok-add_line-2.ensures.ok one.are in
+    two.are.children
