@@ -1,5 +1,6 @@
 pub mod WordLaws
 pub mod TypeLaws
 pub mod ExpressionLaws
+pub mod RowLaws
 pub mod NameKinds
 mod Vectors

@@ -1,15 +1,22 @@
 //! The phrases that the statements of SQL share: names, kinds and expressions.
 #![tactic(auto)]
 
+mod atoms;
+mod chains;
 pub mod kinds;
+mod leaves;
+mod levels;
 mod lexeme;
 mod names;
+mod ranges;
+mod rows;
 mod tail;
 #[cfg(test)]
 mod tests;
 mod tokens;
 mod types;
 
+pub use levels::{concatenation, expression};
 pub use lexeme::{Lexeme, LexemeList};
 pub use names::name_list;
 pub use tail::Tail;
