@@ -5,3 +5,4 @@ pub mod Rows
 pub mod Expressions
 pub mod Reading
 pub mod Nests
+pub mod Columns
