@@ -35,7 +35,7 @@ unfolding x.column
 lawful_column = lawful_leaf Lexeme Expr kind_of k.column_names (λ t. x.bare t.called (e.Column t.place t.text)) (token k.name) (e.Column 0 []) refl refl
 
 lawful_dated : Lawful kind_of x.dated
-unfolding x.dated
+unfolding x.dated x.date_leaf x.date_text
 lawful_dated =
     lawful_pair _ _ _ _ _ _ kind_of _ _ x.dated_by
     (lawful_leaf Lexeme (ℕ × List ℕ) kind_of (k.date_word ∷ []) (λ t. x.bare t.called (t.place, t.text)) (token k.date_word) (0, []) refl refl)
@@ -59,26 +59,31 @@ lawful_not_sign false = lawful_widen _ _ _ (leaf_shape x.nots) kind_of _ (lawful
 lawful_in_parens : (A : Type 0) (s : Shape) (free : Bool) (p : Rule Lexeme s A) → Lawful kind_of p → apart s.after (k.right_paren ∷ []) ≡ true → Lawful kind_of (x.in_parens free p)
 lawful_in_parens A s free p pl ok = lawful_pair _ _ _ _ _ _ kind_of (x.paren free) (p ◂ k.right_paren) (λ u v. v) (lawful_paren free) (lawful_back A s p pl k.right_paren refl ok) refl
 
-lawful_items : (inner : Rule Lexeme x.or_shape Expr) → Lawful kind_of inner → Lawful kind_of (comma_list inner)
+lawful_items : (inner : Rule Lexeme x.or_shape Expr) → Lawful kind_of inner → Lawful kind_of (x.items inner)
+unfolding x.items
 lawful_items inner il = lawful_commas Expr x.or_shape inner il refl refl refl
 
 lawful_cast : (free : Bool) (inner : Rule Lexeme x.or_shape Expr) → Lawful kind_of inner → Lawful kind_of (x.cast_call free inner)
+unfolding x.cast_call
 lawful_cast free inner il =
     let kind = lawful_front _ _ type_name lawful_type k.as_word refl in
     let body = lawful_pair _ _ _ _ _ _ kind_of inner (k.as_word ▸ type_name) (λ a b. (a, b)) il kind refl in
     lawful_pair _ _ _ _ _ _ kind_of (x.place_of k.cast_word) _ x.cast_value (lawful_place k.cast_word refl) (lawful_in_parens _ x.cast_body_shape free _ body refl) refl
 
 lawful_coalesce : (free : Bool) (inner : Rule Lexeme x.or_shape Expr) → Lawful kind_of inner → Lawful kind_of (x.coalesce_call free inner)
+unfolding x.coalesce_call
 lawful_coalesce free inner il =
     lawful_pair _ _ _ _ _ _ kind_of (x.place_of k.coalesce_call) _ (λ place items. e.Coalesce place items) (lawful_place k.coalesce_call refl)
     (lawful_in_parens _ (comma_shape x.or_shape) free _ (lawful_items inner il) refl) refl
 
 lawful_function : (free : Bool) (inner : Rule Lexeme x.or_shape Expr) → Lawful kind_of inner → Lawful kind_of (x.function_call free inner)
+unfolding x.function_call x.function_word
 lawful_function free inner il =
     lawful_pair _ _ _ _ _ _ kind_of _ _ x.function_value (lawful_each _ x.functions (λ t. (t.place, t.kind)) k.abs_call refl)
     (lawful_in_parens _ x.or_shape free inner il refl) refl
 
 lawful_atom : (free : Bool) (inner : Rule Lexeme x.or_shape Expr) → Lawful kind_of inner → Lawful kind_of (x.atom free inner)
+unfolding x.atom
 lawful_atom free inner il =
     let group = lawful_or _ _ _ _ kind_of _ _ (lawful_in_parens _ x.or_shape free inner il refl) lawful_column refl refl refl in
     let one = lawful_or _ _ _ _ kind_of _ _ (lawful_function free inner il) group refl refl refl in
@@ -90,11 +95,12 @@ lawful_atom free inner il =
 
 -- ---- levels
 
-lawful_cast_suffix : Lawful kind_of x.cast_suffix
+pub lawful_cast_suffix : Lawful kind_of x.cast_suffix
 unfolding x.cast_suffix
 lawful_cast_suffix = lawful_pair _ _ _ _ _ _ kind_of (x.place_of k.cast_sign) type_name (λ place kind. (place, kind)) (lawful_place k.cast_sign refl) lawful_type refl
 
 lawful_post : (a : Rule Lexeme x.atom_shape Expr) → Lawful kind_of a → Lawful kind_of (x.post a)
+unfolding x.post
 lawful_post a al =
     let casts = lawful_many _ _ x.cast_sign_shape kind_of x.cast_suffix lawful_cast_suffix refl refl in
     lawful_widen _ _ _ x.post_shape kind_of _ (lawful_pair _ _ _ _ _ _ kind_of a (many kind_of x.cast_suffix) (in_turn cast_to) al casts refl) (λ h. h) refl refl
@@ -120,19 +126,23 @@ module _ (s : Shape) (p : Rule Lexeme s Expr) (pl : Lawful kind_of p) (kinds : L
 
 module _ (free : Bool) (inner : Rule Lexeme x.or_shape Expr) (il : Lawful kind_of inner) (cat : Rule Lexeme x.concat_shape Expr) (cl : Lawful kind_of cat) where
   lawful_between : Lawful kind_of (x.between_tail cat)
+  unfolding x.between_tail
   lawful_between =
       let ends = lawful_pair _ _ _ _ _ _ kind_of cat (k.and_word ▸ cat) (λ low high. (low, high)) cl (lawful_front _ _ cat cl k.and_word refl) refl in
       lawful_pair _ _ _ _ _ _ kind_of (x.place_of k.between_word) _ x.between_of (lawful_place k.between_word refl) ends refl
 
   lawful_in : Lawful kind_of (x.in_tail free inner)
+  unfolding x.in_tail
   lawful_in =
       lawful_pair _ _ _ _ _ _ kind_of (x.place_of k.in_word) _ (λ place items. tails.In place false items) (lawful_place k.in_word refl)
       (lawful_in_parens _ (comma_shape x.or_shape) free _ (lawful_items inner il) refl) refl
 
   lawful_plain_tail : Lawful kind_of (x.plain_tail free inner cat)
+  unfolding x.plain_tail
   lawful_plain_tail = lawful_widen _ _ _ x.plain_tail_shape kind_of _ (lawful_or _ _ _ _ kind_of _ _ lawful_between lawful_in refl refl refl) (λ h. h) refl refl
 
   lawful_tail : Lawful kind_of (x.tail free inner cat)
+  unfolding x.tail
   lawful_tail =
       let other = lawful_pair _ _ _ _ _ _ kind_of (x.place_of k.not_word) _ x.negated_at (lawful_place k.not_word refl) lawful_plain_tail refl in
       lawful_widen _ _ _ x.tail_shape kind_of _ (lawful_or _ _ _ _ kind_of _ _ other lawful_plain_tail refl refl refl) (λ h. h) refl refl
@@ -148,7 +158,7 @@ lawful_compared p pl =
     let other = lawful_optional _ _ _ kind_of _ (lawful_link _ p pl x.comparisons_signs k.equal refl) refl in
     lawful_widen _ _ _ x.compare_shape kind_of _ (lawful_pair _ _ _ _ _ _ kind_of p (optional kind_of (x.link x.comparisons_signs p)) x.with_link pl other refl) (λ h. h) refl refl
 
-lawful_null_test : Lawful kind_of x.null_test
+pub lawful_null_test : Lawful kind_of x.null_test
 unfolding x.null_test
 lawful_null_test =
     lawful_pair _ _ _ _ _ _ kind_of (x.place_of k.is_word) _ (λ place negated. (place, negated)) (lawful_place k.is_word refl)
@@ -174,33 +184,43 @@ pub record InnerLaws (inner : x.Inner) : Type 0 where
 
 module _ (free : Bool) (inner : x.Inner) (laws : InnerLaws inner) where
   pub lawful_signs_at : Lawful kind_of (x.signs_at free inner)
+  unfolding x.signs_at
   lawful_signs_at = lawful_signed free inner.signed _ laws.signed (lawful_post _ (lawful_atom free inner.whole laws.whole))
 
   pub lawful_products_at : Lawful kind_of (x.products_at free inner)
+  unfolding x.products_at
   lawful_products_at = lawful_row _ _ lawful_signs_at x.products k.star refl x.product_shape refl refl refl refl refl
 
   pub lawful_sums_at : Lawful kind_of (x.sums_at free inner)
+  unfolding x.sums_at
   lawful_sums_at = lawful_row _ _ lawful_products_at x.sums k.plus refl x.sum_shape refl refl refl refl refl
 
   pub lawful_concats_at : Lawful kind_of (x.concats_at free inner)
+  unfolding x.concats_at
   lawful_concats_at = lawful_row _ _ lawful_sums_at (k.joined ∷ []) k.joined refl x.concat_shape refl refl refl refl refl
 
   pub lawful_ranges_at : Lawful kind_of (x.ranges_at free inner)
+  unfolding x.ranges_at
   lawful_ranges_at = lawful_range free inner.whole laws.whole _ lawful_concats_at
 
   pub lawful_comparisons_at : Lawful kind_of (x.comparisons_at free inner)
+  unfolding x.comparisons_at
   lawful_comparisons_at = lawful_compared _ lawful_ranges_at
 
   pub lawful_tests_at : Lawful kind_of (x.tests_at free inner)
+  unfolding x.tests_at
   lawful_tests_at = lawful_is_tested _ lawful_comparisons_at
 
   pub lawful_nots_at : Lawful kind_of (x.nots_at free inner)
+  unfolding x.nots_at
   lawful_nots_at = lawful_negated free inner.negated _ laws.negated lawful_tests_at
 
   pub lawful_ands_at : Lawful kind_of (x.ands_at free inner)
+  unfolding x.ands_at
   lawful_ands_at = lawful_row _ _ lawful_nots_at (k.and_word ∷ []) k.and_word refl x.and_shape refl refl refl refl refl
 
   pub lawful_ors_at : Lawful kind_of (x.ors_at free inner)
+  unfolding x.ors_at
   lawful_ors_at = lawful_row _ _ lawful_ands_at (k.or_word ∷ []) k.or_word refl x.or_shape refl refl refl refl refl
 
 pub lawful_inside : (depth : ℕ) → InnerLaws (x.inside depth)

@@ -1,5 +1,7 @@
 pub mod WordLaws
 pub mod TypeLaws
 pub mod ExpressionLaws
+pub mod RowLaws
+pub mod ColumnLaws
 pub mod NameKinds
 mod Vectors

@@ -174,10 +174,14 @@ dated_by name (Some text) = e.Date name.0 text
 abbrev pub dated_shape : Shape
 dated_shape = both (one_of k.date_word) (at_most_once (one_of k.text_token))
 
+unfoldable pub date_leaf : Rule Lexeme (one_of k.date_word) (ℕ × List ℕ)
+date_leaf = leaf kind_of (k.date_word ∷ []) (λ t. bare t.called (t.place, t.text))
+
+unfoldable pub date_text : Rule Lexeme (at_most_once (one_of k.text_token)) (Option (List ℕ))
+date_text = optional kind_of (leaf kind_of (k.text_token ∷ []) (λ t. Some t.text))
+
 unfoldable pub dated : Rule Lexeme dated_shape Expr
-dated =
-    pair dated_by (leaf kind_of (k.date_word ∷ []) (λ t. bare t.called (t.place, t.text)))
-    (optional kind_of (leaf kind_of (k.text_token ∷ []) (λ t. Some t.text)))
+dated = pair dated_by date_leaf date_text
 
 -- ---- levels that free one
 
@@ -214,23 +218,30 @@ cast_value place x = cast_to x.0 (place, x.1)
 abbrev pub cast_body_shape : Shape
 cast_body_shape = both or_shape (both (one_of k.as_word) type_shape)
 
-abbrev pub cast_call : Bool → Rule Lexeme or_shape Expr → Rule Lexeme (both (one_of k.cast_word) (both (leaf_shape parens) (both cast_body_shape (one_of k.right_paren)))) Expr
+unfoldable pub cast_call : Bool → Rule Lexeme or_shape Expr → Rule Lexeme (both (one_of k.cast_word) (both (leaf_shape parens) (both cast_body_shape (one_of k.right_paren)))) Expr
 cast_call free inner = pair cast_value (place_of k.cast_word) (in_parens free (pair (λ x kind. (x, kind)) inner (k.as_word ▸ type_name)))
 
+-- expr { "," expr }
+unfoldable pub items : Rule Lexeme or_shape Expr → Rule Lexeme (comma_shape or_shape) (List Expr)
+items inner = comma_list inner
+
 -- coalesce "(" expr { "," expr } ")"
-abbrev pub coalesce_call : Bool → Rule Lexeme or_shape Expr → Rule Lexeme (both (one_of k.coalesce_call) (both (leaf_shape parens) (both (comma_shape or_shape) (one_of k.right_paren)))) Expr
-coalesce_call free inner = pair (λ place items. e.Coalesce place items) (place_of k.coalesce_call) (in_parens free (comma_list inner))
+unfoldable pub coalesce_call : Bool → Rule Lexeme or_shape Expr → Rule Lexeme (both (one_of k.coalesce_call) (both (leaf_shape parens) (both (comma_shape or_shape) (one_of k.right_paren)))) Expr
+coalesce_call free inner = pair (λ place items. e.Coalesce place items) (place_of k.coalesce_call) (in_parens free (items inner))
 
 -- ( abs | length ) "(" expr ")"
 abbrev pub function_value : ℕ × ℕ → Expr → Expr
 function_value word x = if word.1 == k.abs_call then e.Abs word.0 x else e.Length word.0 x
 
-abbrev pub function_call : Bool → Rule Lexeme or_shape Expr → Rule Lexeme (both (leaf_shape functions) (both (leaf_shape parens) (both or_shape (one_of k.right_paren)))) Expr
-function_call free inner = pair function_value (leaf kind_of functions (λ t. Some (t.place, t.kind))) (in_parens free inner)
+unfoldable pub function_word : Rule Lexeme (leaf_shape functions) (ℕ × ℕ)
+function_word = leaf kind_of functions (λ t. Some (t.place, t.kind))
+
+unfoldable pub function_call : Bool → Rule Lexeme or_shape Expr → Rule Lexeme (both (leaf_shape functions) (both (leaf_shape parens) (both or_shape (one_of k.right_paren)))) Expr
+function_call free inner = pair function_value function_word (in_parens free inner)
 
 -- atom := integer | string | TRUE | FALSE | NULL | DATE string | name | CAST "(" expr AS kind ")"
 --       | ( coalesce | abs | length ) "(" expr { "," expr } ")" | "(" expr ")"
-abbrev pub atom : Bool → Rule Lexeme or_shape Expr → Rule Lexeme atom_shape Expr
+unfoldable pub atom : Bool → Rule Lexeme or_shape Expr → Rule Lexeme atom_shape Expr
 atom free inner =
     widen atom_shape
     (or kind_of literal
@@ -247,7 +258,7 @@ cast_sign_shape = both (one_of k.cast_sign) type_shape
 unfoldable pub cast_suffix : Rule Lexeme cast_sign_shape (ℕ × Kind)
 cast_suffix = pair (λ place kind. (place, kind)) (place_of k.cast_sign) type_name
 
-abbrev pub post : Rule Lexeme atom_shape Expr → Rule Lexeme post_shape Expr
+unfoldable pub post : Rule Lexeme atom_shape Expr → Rule Lexeme post_shape Expr
 post a = widen post_shape (pair (in_turn cast_to) a (many kind_of cast_suffix))
 
 -- neg := ( - | + ) neg | post
@@ -265,16 +276,16 @@ row w kinds p = widen w (pair (in_turn extended) p (many kind_of (link kinds p))
 abbrev pub between_of : ℕ → Expr × Expr → Tail
 between_of place ends = tails.Between place false ends.0 ends.1
 
-abbrev pub between_tail : Rule Lexeme concat_shape Expr → Rule Lexeme (both (one_of k.between_word) (both concat_shape (both (one_of k.and_word) concat_shape))) Tail
+unfoldable pub between_tail : Rule Lexeme concat_shape Expr → Rule Lexeme (both (one_of k.between_word) (both concat_shape (both (one_of k.and_word) concat_shape))) Tail
 between_tail cat = pair between_of (place_of k.between_word) (pair (λ low high. (low, high)) cat (k.and_word ▸ cat))
 
-abbrev pub in_tail : Bool → Rule Lexeme or_shape Expr → Rule Lexeme (both (one_of k.in_word) (both (leaf_shape parens) (both (comma_shape or_shape) (one_of k.right_paren)))) Tail
-in_tail free inner = pair (λ place items. tails.In place false items) (place_of k.in_word) (in_parens free (comma_list inner))
+unfoldable pub in_tail : Bool → Rule Lexeme or_shape Expr → Rule Lexeme (both (one_of k.in_word) (both (leaf_shape parens) (both (comma_shape or_shape) (one_of k.right_paren)))) Tail
+in_tail free inner = pair (λ place items. tails.In place false items) (place_of k.in_word) (in_parens free (items inner))
 
 abbrev pub plain_tail_shape : Shape
 plain_tail_shape = level (k.between_word ∷ k.in_word ∷ []) concat_after
 
-abbrev pub plain_tail : Bool → Rule Lexeme or_shape Expr → Rule Lexeme concat_shape Expr → Rule Lexeme plain_tail_shape Tail
+unfoldable pub plain_tail : Bool → Rule Lexeme or_shape Expr → Rule Lexeme concat_shape Expr → Rule Lexeme plain_tail_shape Tail
 plain_tail free inner cat = widen plain_tail_shape (or kind_of (between_tail cat) (in_tail free inner))
 
 abbrev pub negated_at : ℕ → Tail → Tail
@@ -284,7 +295,7 @@ negated_at place (tails.In at negated items) = tails.In place true items
 abbrev pub tail_shape : Shape
 tail_shape = level tails_first concat_after
 
-abbrev pub tail : Bool → Rule Lexeme or_shape Expr → Rule Lexeme concat_shape Expr → Rule Lexeme tail_shape Tail
+unfoldable pub tail : Bool → Rule Lexeme or_shape Expr → Rule Lexeme concat_shape Expr → Rule Lexeme tail_shape Tail
 tail free inner cat = widen tail_shape (or kind_of (pair negated_at (place_of k.not_word) (plain_tail free inner cat)) (plain_tail free inner cat))
 
 abbrev pub with_tail : Expr → Option Tail → Expr
@@ -319,34 +330,34 @@ negated free inner p = widen not_shape (or kind_of (pair (λ prefix x. prefixed 
 
 -- ---- all levels at a depth, over what is inside
 
-abbrev pub signs_at : Bool → Inner → Rule Lexeme sign_shape Expr
+unfoldable pub signs_at : Bool → Inner → Rule Lexeme sign_shape Expr
 signs_at free inner = signed free inner.signed (post (atom free inner.whole))
 
-abbrev pub products_at : Bool → Inner → Rule Lexeme product_shape Expr
+unfoldable pub products_at : Bool → Inner → Rule Lexeme product_shape Expr
 products_at free inner = row product_shape products (signs_at free inner)
 
-abbrev pub sums_at : Bool → Inner → Rule Lexeme sum_shape Expr
+unfoldable pub sums_at : Bool → Inner → Rule Lexeme sum_shape Expr
 sums_at free inner = row sum_shape sums (products_at free inner)
 
-abbrev pub concats_at : Bool → Inner → Rule Lexeme concat_shape Expr
+unfoldable pub concats_at : Bool → Inner → Rule Lexeme concat_shape Expr
 concats_at free inner = row concat_shape (k.joined ∷ []) (sums_at free inner)
 
-abbrev pub ranges_at : Bool → Inner → Rule Lexeme range_shape Expr
+unfoldable pub ranges_at : Bool → Inner → Rule Lexeme range_shape Expr
 ranges_at free inner = range free inner.whole (concats_at free inner)
 
-abbrev pub comparisons_at : Bool → Inner → Rule Lexeme compare_shape Expr
+unfoldable pub comparisons_at : Bool → Inner → Rule Lexeme compare_shape Expr
 comparisons_at free inner = compared (ranges_at free inner)
 
-abbrev pub tests_at : Bool → Inner → Rule Lexeme is_shape Expr
+unfoldable pub tests_at : Bool → Inner → Rule Lexeme is_shape Expr
 tests_at free inner = is_tested (comparisons_at free inner)
 
-abbrev pub nots_at : Bool → Inner → Rule Lexeme not_shape Expr
+unfoldable pub nots_at : Bool → Inner → Rule Lexeme not_shape Expr
 nots_at free inner = negated free inner.negated (tests_at free inner)
 
-abbrev pub ands_at : Bool → Inner → Rule Lexeme and_shape Expr
+unfoldable pub ands_at : Bool → Inner → Rule Lexeme and_shape Expr
 ands_at free inner = row and_shape (k.and_word ∷ []) (nots_at free inner)
 
-abbrev pub ors_at : Bool → Inner → Rule Lexeme or_shape Expr
+unfoldable pub ors_at : Bool → Inner → Rule Lexeme or_shape Expr
 ors_at free inner = row or_shape (k.or_word ∷ []) (ands_at free inner)
 
 -- what nothing can open stands in for what would be inside

@@ -50,6 +50,10 @@ pub const DEEP_NOT: u8 = 23;
 pub const DEEP_SIGN: u8 = 24;
 /// Stands in for FOR behind aggregates; no text has it.
 pub const LATE_FOR: u8 = 25;
+/// Stands in for a second DEFAULT of a column; no text has it.
+pub const LATE_DEFAULT: u8 = 26;
+/// Stands in for a second PRIMARY of a column; no text has it.
+pub const LATE_PRIMARY: u8 = 27;
 /// AND.
 pub const AND: u8 = 30;
 /// AS.

@@ -1,15 +1,27 @@
-//! The phrases that the statements of SQL share: names, kinds and expressions.
+//! The phrases that the statements of SQL share: names, kinds, expressions, definitions of columns, and constraints.
 #![tactic(auto)]
 
+mod atoms;
+mod chains;
+mod clause;
+mod columns;
+mod constraints;
 pub mod kinds;
+mod leaves;
+mod levels;
 mod lexeme;
 mod names;
+mod ranges;
+mod rows;
 mod tail;
 #[cfg(test)]
 mod tests;
 mod tokens;
 mod types;
 
+pub use columns::column_definition;
+pub use constraints::table_constraint;
+pub use levels::{concatenation, expression};
 pub use lexeme::{Lexeme, LexemeList};
 pub use names::name_list;
 pub use tail::Tail;
