@@ -174,6 +174,11 @@ fn columns(rt: HostRuntime) -> Result<(), Fail> {
     let (_, sink) = answer_to(alloc, &with_columns(alloc, 200)?)?;
     assert!(rt; ends_with(&sink, refused));
     let (_, sink) = answer_to(alloc, &with_columns(alloc, 201)?)?;
-    assert!(rt; ends_with(&sink, "ERROR: 54000: limit of columns passed\nstep y: ALTER TABLE t ADD COLUMN d integer\nERROR: 42P01: table \"t\" does not exist\n"));
+    assert!(rt;
+        ends_with(
+            &sink,
+            "ERROR: 54000: limit of columns passed\nstep y: ALTER TABLE t ADD COLUMN d integer\nERROR: 42P01: table \"t\" does not exist\n"
+        )
+    );
     Ok(())
 }
