@@ -72,27 +72,32 @@ fn take_turn(alloc: Global, engine: &mut Engine, session: u32) -> Result<Outcome
     }
 }
 
-/// Goes on with the steps in hand until no session can go on. It tells whether one was refused.
-fn drive(alloc: Global, engine: &mut Engine) -> Result<bool, NoMemory>
-    ensures { IfOk result (λ refused. IsDriven engine.old engine.new refused) }
+/// Goes on with the steps in hand until no session can go on. It tells what became of them: a refusal where one was refused.
+fn drive(alloc: Global, engine: &mut Engine) -> Result<Outcome, NoMemory>
+    ensures { IfOk result (λ outcome. IsDriven engine.old engine.new (is_refused outcome)) }
 {
-    let mut refused = false;
+    let mut outcome = Outcome::WentOn;
     'turns: loop {
         let Some(session) = engine.ready() else {
-            return Ok(refused);
+            return Ok(outcome);
         };
-        refused |= take_turn(alloc, engine, session)?.is_refused();
+        outcome = outcome.or(take_turn(alloc, engine, session)?);
     }
 }
 
-/// Gives a block to its session, which has no step in hand, and drives. It tells whether a step was refused.
-fn run_block(alloc: Global, engine: &mut Engine, session: u32, block: u32) -> Result<bool, NoMemory>
+/// Gives a block to its session, which has no step in hand, and drives. It tells what became of the steps in hand.
+fn run_block(
+    alloc: Global,
+    engine: &mut Engine,
+    session: u32,
+    block: u32,
+) -> Result<Outcome, NoMemory>
     requires known { session < engine.old.terms.scripts.sessions }
     requires of_session { option_map (λ b. b.session) (slice_get engine.old.terms.scripts.blocks block) ≡ Some session }
     requires not_closed { closed engine.old.past session ≡ false }
     requires idle { hand engine.old.past session ≡ None }
     requires rest { IsAtRest engine.old }
-    ensures { IfOk result (λ refused. HasRunBlock engine.old engine.new session block refused) }
+    ensures { IfOk result (λ outcome. HasRunBlock engine.old engine.new session block (is_refused outcome)) }
 {
     match engine.give(alloc, session, block) {
         Ok(()) => {}
@@ -126,9 +131,9 @@ fn run_whole(alloc: Global, engine: &mut Engine, session: u32, block: u32) -> Re
     requires rest { IsAtRest engine.old }
     ensures { IfOk result (λ failed. HasRunWhole engine.old engine.new session block failed) }
 {
-    let mut failed = run_block(alloc, engine, session, block)?;
-    failed |= cancel_if_busy(alloc, engine, session)?;
-    Ok(failed)
+    let outcome = run_block(alloc, engine, session, block)?;
+    let cancelled = cancel_if_busy(alloc, engine, session)?;
+    Ok(outcome.is_refused() || cancelled)
 }
 
 fn is_setup(part: Part) -> bool

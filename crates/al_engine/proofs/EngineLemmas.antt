@@ -1,6 +1,7 @@
 -- What the engine keeps through each of its calls, and what contracts see of them.
 use Rattle.std.proofs.Common.{◌≡◌, List, ℕ, suc, zero, ◌+◌, ◌<◌, ◌≤◌, [], ◌∷◌, length, refl, sym, ap, cond, true, false, Bool, Option, Some, None, arith, ◌∙◌, slice_get, slice_set, option_map, replicate, inl, inr, ◌-◌, ◌^◌}
 use Rattle.std.specs.Prelude.{◌==◌, is_some, Result, Ok, Err}
+use Rattle.std.proofs.Math.Nat.{le-max_right}
 use Rattle.std.proofs.lemmas.Bool.{ne_eqb}
 use Rattle.std.proofs.lemmas.Option.{slice_get_within}
 use Rattle.al_history.specs.declared.entry.Cause.TheVariants as causes
@@ -199,7 +200,7 @@ module _ (terms : Terms) (old new : Machine) (s block : ℕ) (t : Session) (kept
   give_reserved =
       let was : light_of t + of_step t.xact (length (controls_at terms block)) ≡ light_of held = rw none (omega arith) in
       let set : light new.sessions.list + light_of t ≡ light old.sessions.list + light_of held = rw given_list (light_set old.sessions.list s t held there) in
-      rw taken.locks (omega (arith, set, was, step_light t.xact (length (controls_at terms block)), taken.room))
+      rw taken.locks (omega (arith, set, was, step_light t.xact (length (controls_at terms block)), taken.room, le-max_right old.journal.room (light old.sessions.list + length old.locks.locks.waiting + 1 + of_step None (length (controls_at terms block)))))
 
   pub give_keeps : IsKept terms (parts_of new)
   give_keeps = record {

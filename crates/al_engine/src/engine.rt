@@ -1,4 +1,4 @@
-ghost use Rattle.std.specs.Prelude.{◌≡◌, ◌<◌, ◌≤◌, ◌+◌, ◌∷◌, [], false, None, Some, IfOk, IfErr, OnOk, OnErr, IfSome, is_some, length, slice_get, option_map};
+ghost use Rattle.std.specs.Prelude.{◌≡◌, ◌<◌, ◌≤◌, ◌+◌, max, ◌∷◌, [], false, None, Some, IfOk, IfErr, OnOk, OnErr, IfSome, is_some, length, slice_get, option_map};
 ghost use Rattle.al_history.specs.declared.entry.Entry.TheVariants.{Give};
 ghost use Rattle.al_history.specs.Past.{past_of};
 ghost use Rattle.al_history.specs.Hand.{hand, in_hand, closed};
@@ -13,7 +13,7 @@ ghost use Rattle.std.specs.Option.{option_copied};
 ghost use Rattle.al_engine.specs.Ran.{Ran, IsLegalRun, AreOfSessions, IsBusyFor, IsTurned, ends_block, Cancels, IsClosed, IsReady};
 
 use crate::machine::{Machine, abort, refuse};
-use crate::sessions::{FEWEST_LIGHT, STATEMENT_LIGHT, STEP_LIGHT, Session, SessionList};
+use crate::sessions::{MOST_PLACES, Session, SessionList, step_light};
 use crate::told::{Busy, Told};
 use crate::turns::go_on;
 use al_history::{Cause, Entry, History, Script, Scripts, Terms};
@@ -22,9 +22,6 @@ use al_values::{Cant, NoMemory, Steps, count_of};
 use std::alloc::Global;
 use std::marker::Model;
 use std::sync::ledger::Ledger;
-
-// More than this a journal can't reserve.
-const MOST_PLACES: u64 = 4_294_967_295;
 
 /// The sessions of one run, over a database that is empty at first. Contracts see its terms, which are the blocks that may be
 /// given and the weight that the journal may have, and the past of the journal.
@@ -261,15 +258,13 @@ fn reserve_step(
     statements: u32,
 ) -> Result<(), NoMemory>
     ensures entries { journal.new.entries ≡ journal.old.entries }
-    ensures more { journal.old.room ≤ journal.new.room }
-    ensures ok { OnOk result (light sessions.now.list + length locks.now.locks.waiting + 1 + of_step None statements ≤ journal.new.room) }
+    ensures ok { OnOk result (journal.new.room ≡ max journal.old.room (light sessions.now.list + length locks.now.locks.waiting + 1 + of_step None statements)) }
     ensures err { OnErr result (journal.new.room ≡ journal.old.room) }
 {
     let Some(owed) = sessions.light() else {
         return Err(NoMemory);
     };
-    let step = FEWEST_LIGHT.max(STATEMENT_LIGHT * u64::from(statements) + STEP_LIGHT);
-    let wanted = owed + u64::from(locks.waiting()) + 1 + step;
+    let wanted = owed + u64::from(locks.waiting()) + 1 + step_light(None, statements);
     if wanted > MOST_PLACES {
         return Err(NoMemory);
     }

@@ -8,8 +8,6 @@ mod machine;
 mod sessions;
 mod statements;
 mod stored;
-#[cfg(test)]
-mod tests;
 mod told;
 mod turns;
 mod weights;

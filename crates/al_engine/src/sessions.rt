@@ -4,7 +4,7 @@ ghost use Rattle.std.specs.Option.{option_copied};
 ghost use Rattle.std.specs.List.{list_any};
 ghost use Rattle.al_history.specs.Fate.{is_that};
 ghost use Rattle.al_sessions.specs.Blocks.{controls_given};
-ghost use Rattle.al_engine.specs.Sessions.{idle_session, xact_in, xacts_in, light, light_of, is_open_in, is_held_up, wakened, IsFirstReady, AreStuck};
+ghost use Rattle.al_engine.specs.Sessions.{idle_session, xact_in, xacts_in, light, light_of, of_step, is_open_in, is_held_up, wakened, IsFirstReady, AreStuck};
 ghost use Rattle.al_engine.specs.declared.sessions.Beside.{Beside};
 ghost use Rattle.al_engine.specs.Listed.{nothing_beside, block_in, hand_in, done_in, refuse_of, IsFree, IsGiven, KeepsControls, HasSameStep, IsAfter};
 
@@ -14,17 +14,17 @@ use al_values::NoMemory;
 use std::alloc::Global;
 use std::marker::Model;
 
-/// The light entries of each statement of a step: a Start, the Refuse or the Done, and the end of the transaction.
-pub const STATEMENT_LIGHT: u64 = 3;
+/// A journal has no more entries than these, and can't reserve more.
+pub const MOST_PLACES: u64 = 4_294_967_295;
 
-/// Those of the step itself: a Cancel and the End.
-pub const STEP_LIGHT: u64 = 2;
+// The light entries of each statement of a step: a Start, the Refuse or the Done, and the end of the transaction.
+const STATEMENT_LIGHT: u64 = 3;
 
-/// Those of a step without a statement: a Cancel, its Refuse and the End.
-pub const FEWEST_LIGHT: u64 = 3;
+// Those of the step itself: a Cancel and the End.
+const STEP_LIGHT: u64 = 2;
 
-// A journal has no more entries than these.
-const MOST_LIGHT: u64 = 4_294_967_295;
+// Those of a step without a statement: a Cancel, its Refuse and the End.
+const FEWEST_LIGHT: u64 = 3;
 
 /// A session's transaction block.
 #[derive(Clone, Copy, Debug, PartialEq, Eq)]
@@ -221,7 +221,7 @@ impl SessionList {
         let mut count: u64 = 0;
         for at in 0..self.steps.sessions() {
             count += light_of(self.get(at));
-            if count > MOST_LIGHT {
+            if count > MOST_PLACES {
                 return None;
             }
         }
@@ -250,13 +250,22 @@ fn light_of(state: Session) -> u64
 {
     let close = u64::from(!state.closed);
     let end = u64::from(state.xact.is_some());
-    let statements = STATEMENT_LIGHT * u64::from(state.left);
-    let step = match (state.hand, state.xact) {
-        (None, _) => 0,
-        (Some(_), None) => FEWEST_LIGHT.max(statements + STEP_LIGHT),
-        (Some(_), Some(_)) => FEWEST_LIGHT.max(statements),
+    let step = match state.hand {
+        None => 0,
+        Some(_) => step_light(state.xact, state.left),
     };
     close + end + step
+}
+
+/// How many light entries are owed to a step that has so many statements left, in this open transaction where there is one.
+pub fn step_light(xact: Option<u32>, left: u32) -> u64
+    ensures { result ≡ of_step xact left }
+{
+    let statements = STATEMENT_LIGHT * u64::from(left);
+    match xact {
+        None => FEWEST_LIGHT.max(statements + STEP_LIGHT),
+        Some(_) => FEWEST_LIGHT.max(statements),
+    }
 }
 
 /// What is kept of so many open sessions beside their steps.

@@ -1,4 +1,4 @@
-ghost use Rattle.std.specs.Prelude.{◌≡◌};
+ghost use Rattle.std.specs.Prelude.{◌≡◌, ◌||◌};
 ghost use Rattle.al_engine.specs.Outcomes.{is_refused};
 
 /// The session has a step in hand, so it can't be given another.
@@ -22,6 +22,16 @@ impl Outcome {
         match self {
             Outcome::WentOn => false,
             Outcome::Refused => true,
+        }
+    }
+
+    /// What became of two statements together: a refusal where one of them was refused.
+    pub fn or(self, other: Outcome) -> Outcome
+        ensures { is_refused result ≡ (is_refused self || is_refused other) }
+    {
+        match self {
+            Outcome::WentOn => other,
+            Outcome::Refused => Outcome::Refused,
         }
     }
 }

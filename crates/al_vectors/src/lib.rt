@@ -1,8 +1,10 @@
-//! Tests over what the crates below show: the top calls and the report.
+//! Tests over what the crates below show: the engine, the top calls and the report.
 #![tactic(auto)]
 
 #[cfg(test)]
 mod answering;
+#[cfg(test)]
+mod engine;
 #[cfg(test)]
 mod limits;
 #[cfg(test)]

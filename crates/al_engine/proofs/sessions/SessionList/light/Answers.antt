@@ -6,7 +6,7 @@ pub get-requires : goal.get-requires
 get-requires c = record { known = rw (← c.self.view_is) (within_all c.self.inside.steps c.self.inside.beside.items c.self.invariant c.loop-at.at (omega (arith, c.loop-at-test.true, c.sessions-at-end.ensures, c.self.invariant))) }
 
 pub loop-at-preserved : goal.loop-at-preserved
-loop-at-preserved c = (omega (arith, light_next c.args.self.now.list c.loop-at.at (c.loop-at.at + 1) c.get.result refl c.get.ensures, c.loop-at.invariant.0, c.light_of-count.ensures), omega (arith, c.if-count-gt-MOST_LIGHT.false))
+loop-at-preserved c = (omega (arith, light_next c.args.self.now.list c.loop-at.at (c.loop-at.at + 1) c.get.result refl c.get.ensures, c.loop-at.invariant.0, c.light_of-count.ensures), omega (arith, c.if-count-gt-MOST_PLACES.false))
 
 pub returns : goal.returns
 returns c =

@@ -3,7 +3,7 @@ ghost use Rattle.al_history.specs.Hand.{closed};
 ghost use Rattle.al_engine.specs.Ran.{AreOfSessions, Ran};
 ghost use Rattle.al_history.specs.declared.statement.ScriptBlock.{ScriptBlock};
 
-use crate::{Engine, Outcome, Told};
+use al_engine::{Engine, Outcome, Told};
 use al_history::{Column, Entry, History, ScriptBlock, Scripts, Statement};
 use al_values::{ListOf, Name, NameList, NoMemory, Row, Steps, Value};
 use std::alloc::Global;

@@ -1,4 +1,4 @@
-use Rattle.al_engine.proofs.tests.turn.Given as goal
+use Rattle.al_vectors.proofs.engine.turn.Given as goal
 
 abbrev pub ghosts-turn_in : goal.ghosts-turn_in
 ghosts-turn_in a = record { name = a.blank.name; parts = a.blank.parts }
