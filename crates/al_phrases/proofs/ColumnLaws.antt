@@ -1,7 +1,7 @@
 -- Definitions of columns and constraints of tables are read lawfully, at each depth.
-use Rattle.std.proofs.Common.{◌≡◌, ℕ, Bool, true, false, List, [], ◌∷◌, refl}
+use Rattle.std.proofs.Common.{◌≡◌, ℕ, Bool, true, false, List, refl}
 use Rattle.al_grammar.specs.Kinds.{starts}
-use Rattle.al_grammar.specs.Rules.{Shape, Rule, read, fault, leaf_shape, both, at_most_once, optional, mapped}
+use Rattle.al_grammar.specs.Rules.{read, fault, leaf_shape, optional}
 use Rattle.al_grammar.specs.Laws.{Lawful}
 use Rattle.al_grammar.proofs.Pair.{lawful_pair}
 use Rattle.al_grammar.proofs.Choices.{lawful_or, lawful_optional, lawful_mapped}
@@ -16,10 +16,10 @@ use Rattle.al_phrases.specs.declared.clause.Clause.{Clause}
 use Rattle.al_phrases.specs.declared.clause.Clause.TheVariants as clauses
 use Rattle.al_phrases.specs.declared.clause.Seen.{Seen}
 use Rattle.al_phrases.specs.Kinds as k
-use Rattle.al_phrases.specs.Words.{kind_of, one_of, word, is_there, name_shape, name, name_list, comma_shape, ◌▸◌, ◌◂◌}
+use Rattle.al_phrases.specs.Words.{kind_of, word, is_there, name, name_list}
 use Rattle.al_phrases.specs.Types.{type_name}
 use Rattle.al_phrases.specs.Rows.{in_turn}
-use Rattle.al_phrases.specs.Expressions.{or_shape, concat_shape, expression, concatenation}
+use Rattle.al_phrases.specs.Expressions.{expression, concatenation}
 use Rattle.al_phrases.specs.Columns as c
 use Rattle.al_phrases.proofs.WordLaws.{lawful_word, lawful_front, lawful_back, lawful_name, lawful_name_list}
 use Rattle.al_phrases.proofs.TypeLaws.{lawful_type}

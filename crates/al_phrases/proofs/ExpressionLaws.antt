@@ -14,7 +14,7 @@ use Rattle.al_expr.specs.declared.tree.Prefix.TheVariants as prefixes
 use Rattle.al_phrases.specs.declared.lexeme.Lexeme.{Lexeme}
 use Rattle.al_phrases.specs.declared.tail.Tail.TheVariants as tails
 use Rattle.al_phrases.specs.Kinds as k
-use Rattle.al_phrases.specs.Words.{kind_of, word, given, comma_list, comma_shape, ◌▸◌, ◌◂◌}
+use Rattle.al_phrases.specs.Words.{kind_of, word, given, comma_shape, ◌▸◌, ◌◂◌}
 use Rattle.al_phrases.specs.Types.{type_name}
 use Rattle.al_phrases.specs.Rows.{extended, prefixed, cast_to, tested, in_turn}
 use Rattle.al_phrases.specs.Expressions as x

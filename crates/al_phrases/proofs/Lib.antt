@@ -5,3 +5,6 @@ pub mod RowLaws
 pub mod ColumnLaws
 pub mod NameKinds
 mod Vectors
+mod CanonicalNodes
+mod CanonicalRows
+mod CanonicalLaws

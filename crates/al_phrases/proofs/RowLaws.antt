@@ -1,7 +1,7 @@
 -- Repetitions in an expression, as code reads them by a loop: one more, a fault, and the end.
 use Rattle.std.proofs.Common.{◌≡◌, ℕ, Bool, true, false, List, [], ◌∷◌, ◌++◌, refl}
 use Rattle.al_values.specs.declared.kinds.Kind.{Kind}
-use Rattle.al_grammar.specs.Kinds.{among, starts}
+use Rattle.al_grammar.specs.Kinds.{starts}
 use Rattle.al_grammar.specs.Rules.{Shape, Rule, read, fault, leaf_shape, both}
 use Rattle.al_grammar.specs.Gives.{fold_from}
 use Rattle.al_grammar.specs.Laws.{Lawful}

@@ -1,7 +1,7 @@
 -- Definitions of columns, and constraints of tables (CREATE TABLE), over tokens. `depth` is how many levels an expression in
 -- them may open.
 use Rattle.std.specs.Prelude.{ℕ, Bool, true, false, List, [], ◌∷◌, ◌++◌, Option, Some, None}
-use Rattle.al_grammar.specs.Rules.{Shape, Step, Rule, leaf_shape, pair, both, optional, at_most_once, mapped, or, either, widen}
+use Rattle.al_grammar.specs.Rules.{Shape, Step, Rule, leaf_shape, pair, both, optional, at_most_once, mapped, or, widen}
 use Rattle.al_grammar.specs.State.{many_by}
 use Rattle.al_grammar.specs.Gives.{fold_by}
 use Rattle.al_values.specs.declared.kinds.Kind.{Kind}

@@ -6,3 +6,4 @@ pub mod Expressions
 pub mod Reading
 pub mod Nests
 pub mod Columns
+pub mod Canonical

@@ -1,5 +1,5 @@
 -- What is read of a repetition behind what was read so far, at a depth.
-use Rattle.std.specs.Prelude.{ℕ, zero, suc, Bool, List, [], ◌∷◌}
+use Rattle.std.specs.Prelude.{ℕ, Bool, List, [], ◌∷◌}
 use Rattle.al_grammar.specs.Rules.{Shape, Step, Rule, leaf_shape, both, next_item}
 use Rattle.al_grammar.specs.Gives.{fold_from, many_from}
 use Rattle.al_expr.specs.declared.tree.Expr.{Expr}

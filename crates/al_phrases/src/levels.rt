@@ -5,6 +5,7 @@ ghost use Rattle.al_grammar.specs.Gives.{GivesStep};
 ghost use Rattle.al_phrases.specs.Nests.{Nests};
 ghost use Rattle.al_phrases.specs.Expressions.{inside, is_free, expression, concatenation};
 ghost use Rattle.al_phrases.specs.Reading.{opened_at};
+ghost use Rattle.al_phrases.specs.Canonical.{is_canonical};
 
 use crate::Lexeme;
 use crate::leaves::column;
@@ -112,6 +113,7 @@ pub fn expression(
     tokens: &[Lexeme],
 ) -> Result<(Expr, &[Lexeme]), Cant<usize>>
     ensures gives { GivesStep (λ x. x.0) (λ x. x.1.now) result ((expression depth).reads tokens.now) }
+    ensures canonical { IfOk result (λ x. is_canonical x.0 ≡ true) }
     ensures shorter { IfOk result (λ x. length x.1.now < length tokens.now) }
 {
     let levels = Levels {
@@ -130,6 +132,7 @@ pub fn concatenation(
     tokens: &[Lexeme],
 ) -> Result<(Expr, &[Lexeme]), Cant<usize>>
     ensures gives { GivesStep (λ x. x.0) (λ x. x.1.now) result ((concatenation depth).reads tokens.now) }
+    ensures canonical { IfOk result (λ x. is_canonical x.0 ≡ true) }
     ensures shorter { IfOk result (λ x. length x.1.now < length tokens.now) }
 {
     let levels = Levels {

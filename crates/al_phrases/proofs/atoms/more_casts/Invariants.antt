@@ -1,4 +1,4 @@
-use Rattle.std.proofs.Common.{◌≡◌, ◌≤◌, ◌∷◌, [], length}
+use Rattle.std.proofs.Common.{◌≡◌, ◌≤◌, length}
 use Rattle.al_phrases.specs.Reading.{casts_from}
 use Rattle.al_phrases.proofs.atoms.more_casts.Given as goal
 

@@ -1,4 +1,4 @@
-use Rattle.std.proofs.Common.{◌≡◌, ◌≤◌, ◌∷◌, [], length}
+use Rattle.std.proofs.Common.{◌≡◌, ◌≤◌, length}
 use Rattle.al_phrases.specs.Reading.{tests_from}
 use Rattle.al_phrases.proofs.ranges.more_tests.Given as goal
 
