@@ -122,11 +122,11 @@ unfoldable pub dropped : Rule Lexeme dropped_shape (List ℕ)
 dropped = pair (λ called restrict. called) name (given k.restrict_word)
 
 -- DROP CONSTRAINT name [ RESTRICT ] | DROP [ COLUMN ] name [ RESTRICT ]
-abbrev pub drop_shape : Shape
-drop_shape = both (one_of k.drop_word) (either (both (one_of k.constraint_word) dropped_shape) (noise_shape k.column_word dropped_shape))
+abbrev pub remove_shape : Shape
+remove_shape = both (one_of k.drop_word) (either (both (one_of k.constraint_word) dropped_shape) (noise_shape k.column_word dropped_shape))
 
-unfoldable pub drop : Rule Lexeme drop_shape Sub
-drop = k.drop_word ▸ or kind_of (mapped subs.DropConstraint (k.constraint_word ▸ dropped)) (mapped subs.DropColumn (noise k.column_word dropped))
+unfoldable pub remove : Rule Lexeme remove_shape Sub
+remove = k.drop_word ▸ or kind_of (mapped subs.DropConstraint (k.constraint_word ▸ dropped)) (mapped subs.DropColumn (noise k.column_word dropped))
 
 -- ---- ALTER of a column
 
@@ -134,14 +134,14 @@ drop = k.drop_word ▸ or kind_of (mapped subs.DropConstraint (k.constraint_word
 abbrev pub using_shape : Shape
 using_shape = both (one_of k.using_word) or_shape
 
-unfoldable pub using : ℕ → Rule Lexeme using_shape Expr
-using depth = k.using_word ▸ expression depth
+unfoldable pub using_clause : ℕ → Rule Lexeme using_shape Expr
+using_clause depth = k.using_word ▸ expression depth
 
 abbrev pub type_change_shape : Shape
 type_change_shape = both (one_of k.type_word) (both type_shape (at_most_once using_shape))
 
 unfoldable pub type_change : ℕ → Rule Lexeme type_change_shape Action
-type_change depth = k.type_word ▸ pair actions.Type type_name (optional kind_of (using depth))
+type_change depth = k.type_word ▸ pair actions.Type type_name (optional kind_of (using_clause depth))
 
 -- NOT NULL
 abbrev pub not_null_shape : Shape
@@ -158,8 +158,8 @@ set_shape = record {
   after = type_change_shape.after ++ concat_shape.after;
 }
 
-unfoldable pub set : ℕ → Rule Lexeme set_shape Action
-set depth =
+unfoldable pub set_action : ℕ → Rule Lexeme set_shape Action
+set_action depth =
     widen set_shape
     (k.set_word ▸ or kind_of (k.data_word ▸ type_change depth)
     (or kind_of (mapped actions.SetDefault (k.default_word ▸ concatenation depth))
@@ -169,8 +169,8 @@ set depth =
 abbrev pub unset_shape : Shape
 unset_shape = both (one_of k.drop_word) (either (one_of k.default_word) not_null_shape)
 
-unfoldable pub unset : Rule Lexeme unset_shape Action
-unset = k.drop_word ▸ or kind_of (mapped (λ u. actions.DropDefault) (word k.default_word)) (mapped (λ u. actions.DropNotNull) not_null)
+unfoldable pub unset_action : Rule Lexeme unset_shape Action
+unset_action = k.drop_word ▸ or kind_of (mapped (λ u. actions.DropDefault) (word k.default_word)) (mapped (λ u. actions.DropNotNull) not_null)
 
 -- what may be done to a column
 abbrev pub action_shape : Shape
@@ -181,10 +181,10 @@ action_shape = record {
 }
 
 unfoldable pub action : ℕ → Rule Lexeme action_shape Action
-action depth = widen action_shape (or kind_of (type_change depth) (or kind_of (set depth) unset))
+action depth = widen action_shape (or kind_of (type_change depth) (or kind_of (set_action depth) unset_action))
 
 abbrev pub on_column : List ℕ → Action → Sub
-on_column column (actions.Type kind using) = subs.AlterType column kind using
+on_column column (actions.Type kind value) = subs.AlterType column kind value
 on_column column (actions.SetDefault value) = subs.SetDefault column value
 on_column column actions.DropDefault = subs.DropDefault column
 on_column column actions.SetNotNull = subs.SetNotNull column
@@ -237,14 +237,14 @@ abbrev pub sub_shape : Shape
 sub_shape = record {
   empty = false;
   first = k.add_word ∷ k.drop_word ∷ k.alter_word ∷ k.validate_word ∷ k.set_word ∷ k.inherit_word ∷ k.no_word ∷ [];
-  after = add_shape.after ++ drop_shape.after ++ alter_shape.after;
+  after = add_shape.after ++ remove_shape.after ++ alter_shape.after;
 }
 
 unfoldable pub sub : ℕ → Rule Lexeme sub_shape Sub
 sub depth =
     widen sub_shape
     (or kind_of (add depth)
-    (or kind_of drop
+    (or kind_of remove
     (or kind_of (alter_column depth)
     (or kind_of validate
     (or kind_of fillfactor
