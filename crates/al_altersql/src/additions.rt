@@ -2,9 +2,7 @@ ghost use Rattle.std.specs.Prelude.{ℕ, true, false, ◌≡◌, ◌<◌, ◌≤
 ghost use Rattle.al_grammar.specs.Gives.{GivesStep};
 ghost use Rattle.al_altersql.specs.Alter.{takes_not_valid, not_mark, not_valid, new_column, new_constraint, add};
 
-use al_phrases::kinds::{
-    ADD, CHECK, COLUMN, CONSTRAINT, FOREIGN, NOT, PRIMARY, UNIQUE, VALID,
-};
+use al_phrases::kinds::{ADD, CHECK, COLUMN, CONSTRAINT, FOREIGN, NOT, PRIMARY, UNIQUE, VALID};
 use al_phrases::{Lexeme, column_definition, given, starts_among, table_constraint, word};
 use al_statements::{Rule, Sub};
 use al_values::Cant;

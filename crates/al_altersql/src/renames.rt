@@ -19,10 +19,7 @@ fn new_name(alloc: Global, tokens: &[Lexeme]) -> Result<(Name, &[Lexeme]), Cant<
 
 // A name TO another.
 #[tactic(auto, unfolding(crate::specs::Alter::names_change))]
-fn names_change(
-    alloc: Global,
-    tokens: &[Lexeme],
-) -> Result<((Name, Name), &[Lexeme]), Cant<usize>>
+fn names_change(alloc: Global, tokens: &[Lexeme]) -> Result<((Name, Name), &[Lexeme]), Cant<usize>>
     ensures gives { GivesStep (λ x. x.0) (λ x. x.1.now) result (names_change.reads tokens.now) }
     ensures shorter { IfOk result (λ x. length x.1.now < length tokens.now) }
 {
