@@ -14,8 +14,7 @@ use Rattle.al_phrases.specs.declared.lexeme.Lexeme.{Lexeme}
 use Rattle.al_phrases.specs.Kinds as k
 use Rattle.al_phrases.specs.Words.{kind_of, one_of, word, given, is_there, name, name_list, ◌▸◌, ◌◂◌}
 use Rattle.al_phrases.proofs.WordLaws.{token, lawful_each, lawful_word, lawful_front, lawful_back, lawful_commas, lawful_given, lawful_name, lawful_name_list}
-use Rattle.std.proofs.Common.{subst, sym, ◌∙◌}
-use Rattle.std.proofs.Math.List.{append-nil}
+use Rattle.std.proofs.Common.{subst, sym, ◌∙◌, append-nil}
 use Rattle.al_values.specs.declared.scalar.Value.TheVariants as values
 use Rattle.al_expr.specs.declared.tree.Expr.{Expr}
 use Rattle.al_expr.specs.declared.tree.Expr.TheVariants as e
