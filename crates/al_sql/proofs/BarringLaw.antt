@@ -1,5 +1,5 @@
 -- Texts of a rule that begin with none of some kinds are read lawfully, where there is such a text.
-use Rattle.std.proofs.Common.{◌≡◌, ℕ, Bool, true, false, List, [], ◌∷◌, ◌++◌, length, refl, sym, ap, ◌∙◌, subst}
+use Rattle.std.proofs.Common.{◌≡◌, ℕ, Bool, true, false, List, [], ◌∷◌, ◌++◌, length, refl, sym, ◌∙◌, subst}
 use Rattle.std.specs.Prelude.{if◌then◌else◌, ◌==◌}
 use Rattle.al_grammar.specs.Kinds.{among, within, starts}
 use Rattle.al_grammar.specs.Rules.{Shape, Step, Rule, read, fault}

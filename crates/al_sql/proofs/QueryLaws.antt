@@ -1,22 +1,19 @@
 -- SELECT is read lawfully.
 use Rattle.std.specs.Prelude.{◌==◌}
-use Rattle.std.proofs.Common.{◌≡◌, ℕ, ℤ, pos, Bool, true, false, List, [], ◌∷◌, ◌++◌, Option, Some, None, refl}
+use Rattle.std.proofs.Common.{◌≡◌, ℕ, Bool, true, false, List, [], ◌∷◌, ◌++◌, None, refl}
 use Rattle.al_grammar.specs.Kinds.{starts}
-use Rattle.al_grammar.specs.Rules.{Shape, Rule, read, fault, leaf_shape, leaf, both, at_most_once, optional, many, mapped, pair}
+use Rattle.al_grammar.specs.Rules.{read, fault, leaf_shape, optional}
 use Rattle.al_grammar.specs.Laws.{Lawful}
-use Rattle.al_grammar.proofs.Leaf.{lawful_leaf}
-use Rattle.al_grammar.proofs.Pair.{lawful_pair, lawful_then}
+use Rattle.al_grammar.proofs.Pair.{lawful_pair}
 use Rattle.al_grammar.proofs.Choices.{lawful_or, lawful_optional, lawful_mapped}
-use Rattle.al_grammar.proofs.Many.{lawful_many}
 use Rattle.al_grammar.proofs.More.{lawful_widen}
-use Rattle.al_grammar.proofs.Rows.{lawful_next, fold_on, fold_off, fold_stop, many_on, many_off, many_stop}
+use Rattle.al_grammar.proofs.Rows.{lawful_next, many_on, many_off, many_stop}
 use Rattle.al_phrases.specs.declared.lexeme.Lexeme.{Lexeme}
 use Rattle.al_phrases.specs.Kinds as k
-use Rattle.al_phrases.specs.Words.{kind_of, one_of, word, given, is_there, name, name_list, ◌▸◌, ◌◂◌}
-use Rattle.al_phrases.proofs.WordLaws.{token, lawful_each, lawful_word, lawful_front, lawful_back, lawful_commas, lawful_given, lawful_name, lawful_name_list}
+use Rattle.al_phrases.specs.Words.{kind_of, one_of, word, name}
+use Rattle.al_phrases.proofs.WordLaws.{token, lawful_each, lawful_word, lawful_front, lawful_back, lawful_commas, lawful_name}
 use Rattle.std.proofs.Common.{subst, sym, ◌∙◌, append-nil}
 use Rattle.al_values.specs.declared.scalar.Value.TheVariants as values
-use Rattle.al_expr.specs.declared.tree.Expr.{Expr}
 use Rattle.al_expr.specs.declared.tree.Expr.TheVariants as e
 use Rattle.al_modes.specs.declared.row_mode.RowMode.TheVariants as row_modes
 use Rattle.al_statements.specs.declared.query.Output.{Output}
@@ -32,8 +29,7 @@ use Rattle.al_phrases.specs.Expressions.{literal, column, date_leaf, date_text, 
 use Rattle.al_phrases.proofs.ExpressionLaws.{lawful_expression}
 use Rattle.al_altersql.specs.Alter.{target}
 use Rattle.al_altersql.proofs.AlterLaws.{lawful_target}
-use Rattle.al_sql.specs.declared.following.Rest.{Rest}
-use Rattle.al_sql.specs.Phrases.{IsBarred, barring, or_none, comma_next, condition}
+use Rattle.al_sql.specs.Phrases.{barring, or_none, comma_next, condition}
 use Rattle.al_sql.specs.Queries as q
 use Rattle.al_sql.proofs.BarringLaw.{lawful_barring}
 use Rattle.al_sql.proofs.PhraseLaws.{lawful_condition}

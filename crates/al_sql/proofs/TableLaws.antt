@@ -1,19 +1,16 @@
 -- LOCK TABLE, CREATE TABLE and DROP TABLE are read lawfully.
-use Rattle.std.specs.Prelude.{◌==◌}
-use Rattle.std.proofs.Common.{◌≡◌, ℕ, ℤ, pos, Bool, true, false, List, [], ◌∷◌, ◌++◌, Option, Some, None, refl}
-use Rattle.al_grammar.specs.Kinds.{starts}
-use Rattle.al_grammar.specs.Rules.{Shape, Rule, read, fault, leaf_shape, leaf, both, at_most_once, optional, many, mapped, pair}
+use Rattle.std.proofs.Common.{ap, length, ◌≡◌, ℕ, Bool, true, false, List, [], ◌∷◌, ◌++◌, Some, refl}
+use Rattle.al_grammar.specs.Kinds.{among, starts}
+use Rattle.al_grammar.specs.Rules.{taken, read, fault, leaf_shape, optional}
 use Rattle.al_grammar.specs.Laws.{Lawful}
-use Rattle.al_grammar.proofs.Leaf.{lawful_leaf}
 use Rattle.al_grammar.proofs.Pair.{lawful_pair, lawful_then}
 use Rattle.al_grammar.proofs.Choices.{lawful_or, lawful_optional, lawful_mapped}
-use Rattle.al_grammar.proofs.Many.{lawful_many}
 use Rattle.al_grammar.proofs.More.{lawful_widen}
-use Rattle.al_grammar.proofs.Rows.{lawful_next, fold_on, fold_off, fold_stop, many_on, many_off, many_stop}
+use Rattle.al_grammar.proofs.Rows.{lawful_next, many_on, many_off, many_stop}
 use Rattle.al_phrases.specs.declared.lexeme.Lexeme.{Lexeme}
 use Rattle.al_phrases.specs.Kinds as k
-use Rattle.al_phrases.specs.Words.{kind_of, one_of, word, given, is_there, name, name_list, ◌▸◌, ◌◂◌}
-use Rattle.al_phrases.proofs.WordLaws.{token, lawful_each, lawful_word, lawful_front, lawful_back, lawful_commas, lawful_given, lawful_name, lawful_name_list}
+use Rattle.al_phrases.specs.Words.{kind_of, one_of, word, given, name, name_list}
+use Rattle.al_phrases.proofs.WordLaws.{lawful_each, lawful_word, lawful_front, lawful_back, lawful_commas, lawful_given, lawful_name, lawful_name_list}
 use Rattle.al_modes.specs.declared.mode.Mode.{Mode}
 use Rattle.al_modes.specs.declared.mode.Mode.TheVariants as modes
 use Rattle.al_statements.specs.declared.tables.Target.{Target}
@@ -119,8 +116,9 @@ elements_stop depth = many_stop Lexeme Element (comma_next t.element_shape) kind
 lawful_elements_in_parens : (depth : ℕ) → Lawful kind_of (t.elements_in_parens depth)
 unfolding t.elements_in_parens
 lawful_elements_in_parens depth =
-    let all = lawful_mapped _ _ _ _ kind_of or_none _ (lawful_optional _ _ _ kind_of (t.element_list depth) (lawful_element_list depth) refl) in
-    lawful_front _ _ _ (lawful_back _ _ _ all k.right_paren refl refl) k.left_paren refl
+    let none = lawful_mapped _ _ _ _ kind_of t.no_elements (word k.right_paren) (lawful_word k.right_paren refl) in
+    let some = lawful_back _ _ (t.element_list depth) (lawful_element_list depth) k.right_paren refl refl in
+    lawful_front _ _ _ (lawful_or _ _ _ _ kind_of _ _ none some refl refl refl) k.left_paren refl
 
 lawful_inherits : Lawful kind_of t.inherits
 unfolding t.inherits
@@ -141,7 +139,29 @@ lawful_exists_mark false = lawful_widen _ _ _ (leaf_shape t.exists_first) kind_o
 
 lawful_first_name : Lawful kind_of t.first_name
 unfolding t.first_name
-lawful_first_name = lawful_each _ k.names (λ (x : Lexeme). (x.kind == k.if_word, x.text)) k.name refl
+lawful_first_name = lawful_each _ k.names (λ (x : Lexeme). (among x.kind (k.if_word ∷ []), x.text)) k.name refl
+
+-- the first name as code reads it: by a name's reader, and a look at the token
+name_taken : (b is_if : Bool) (x : Lexeme) (ts rest : List Lexeme) (n : List ℕ) → taken b (Some x.text) x ts ≡ read n rest → taken {A = Bool × List ℕ} b (Some (is_if, x.text)) x ts ≡ read (is_if, n) rest
+name_taken true is_if x ts rest n e =
+    let text : x.text ≡ n = cc in
+    let left : ts ≡ rest = cc in
+    rw (text, left) refl
+name_taken false is_if x ts rest n e = absurd cc
+
+name_refused : (b is_if : Bool) (x : Lexeme) (ts : List Lexeme) (m : ℕ) → taken b (Some x.text) x ts ≡ fault m → taken {A = Bool × List ℕ} b (Some (is_if, x.text)) x ts ≡ fault m
+name_refused true is_if x ts m e = absurd cc
+name_refused false is_if x ts m e = let same : length (x ∷ ts) ≡ m = cc in ap (λ (n : ℕ). fault n) same
+
+pub first_on : (ts rest : List Lexeme) (n : List ℕ) → name.reads ts ≡ read n rest → t.first_name.reads ts ≡ read (starts kind_of false (k.if_word ∷ []) ts, n) rest
+unfolding name t.first_name
+first_on [] rest n e = absurd cc
+first_on (x ∷ ts) rest n e = name_taken (among (kind_of x) k.names) (among (kind_of x) (k.if_word ∷ [])) x ts rest n e
+
+pub first_off : (ts : List Lexeme) (m : ℕ) → name.reads ts ≡ fault m → t.first_name.reads ts ≡ fault m
+unfolding name t.first_name
+first_off [] m e = let same : 0 ≡ m = cc in ap (λ (n : ℕ). fault n) same
+first_off (x ∷ ts) m e = name_refused (among (kind_of x) k.names) (among (kind_of x) (k.if_word ∷ [])) x ts m e
 
 lawful_following : (is_if : Bool) → Lawful kind_of (t.following is_if)
 unfolding t.following

@@ -1,21 +1,15 @@
 -- Statements on transactions are read lawfully.
-use Rattle.std.proofs.Common.{◌≡◌, ℕ, ℤ, pos, Bool, true, false, List, [], ◌∷◌, ◌++◌, Option, Some, None, refl}
-use Rattle.al_grammar.specs.Kinds.{starts}
-use Rattle.al_grammar.specs.Rules.{Shape, Rule, read, fault, leaf_shape, leaf, both, at_most_once, optional, many, mapped, pair}
+use Rattle.std.proofs.Common.{ℕ, List, refl}
 use Rattle.al_grammar.specs.Laws.{Lawful}
-use Rattle.al_grammar.proofs.Leaf.{lawful_leaf}
-use Rattle.al_grammar.proofs.Pair.{lawful_pair, lawful_then}
+use Rattle.al_grammar.proofs.Pair.{lawful_pair}
 use Rattle.al_grammar.proofs.Choices.{lawful_or, lawful_optional, lawful_mapped}
-use Rattle.al_grammar.proofs.Many.{lawful_many}
-use Rattle.al_grammar.proofs.More.{lawful_widen}
-use Rattle.al_grammar.proofs.Rows.{lawful_next, fold_on, fold_off, fold_stop, many_on, many_off, many_stop}
 use Rattle.al_phrases.specs.declared.lexeme.Lexeme.{Lexeme}
 use Rattle.al_phrases.specs.Kinds as k
-use Rattle.al_phrases.specs.Words.{kind_of, one_of, word, given, is_there, name, name_list, ◌▸◌, ◌◂◌}
-use Rattle.al_phrases.proofs.WordLaws.{token, lawful_each, lawful_word, lawful_front, lawful_back, lawful_commas, lawful_given, lawful_name, lawful_name_list}
+use Rattle.al_phrases.specs.Words.{kind_of, name}
+use Rattle.al_phrases.proofs.WordLaws.{lawful_each, lawful_word, lawful_front, lawful_name}
 use Rattle.al_modes.specs.declared.level.Level.TheVariants as levels
 use Rattle.al_statements.specs.declared.script.Statement.TheVariants as statements
-use Rattle.al_sql.specs.Phrases.{word_among, given_among, filler}
+use Rattle.al_sql.specs.Phrases.{word_among, given_among}
 use Rattle.al_sql.specs.Transactions as t
 use Rattle.al_sql.proofs.PhraseLaws.{lawful_word_among, lawful_given_among}
 

@@ -1,5 +1,5 @@
 -- SELECT (the manual, SELECT), over tokens. Its list decides by its first token what may follow it.
-use Rattle.std.specs.Prelude.{ℕ, Bool, true, false, ◌==◌, if◌then◌else◌, List, [], ◌∷◌, ◌++◌, Option, Some, None}
+use Rattle.std.specs.Prelude.{ℕ, Bool, true, false, ◌==◌, List, [], ◌∷◌, ◌++◌, Option, Some, None}
 use Rattle.al_grammar.specs.Rules.{Shape, Step, Rule, leaf, leaf_shape, pair, both, optional, at_most_once, mapped, or, either, widen}
 use Rattle.al_grammar.specs.Gives.{many_from}
 use Rattle.al_modes.specs.declared.row_mode.RowMode.{RowMode}

@@ -1,5 +1,5 @@
 -- INSERT, UPDATE and DELETE (the manual, the pages of these statements), over tokens.
-use Rattle.std.specs.Prelude.{ℕ, ℤ, List, [], ◌∷◌, Option}
+use Rattle.std.specs.Prelude.{ℕ, ℤ, List, Option}
 use Rattle.al_grammar.specs.Rules.{Shape, Step, Rule, pair, both, optional, at_most_once, mapped, or, either}
 use Rattle.al_grammar.specs.Gives.{many_from}
 use Rattle.al_expr.specs.declared.tree.Expr.{Expr}

@@ -6,7 +6,7 @@ use Rattle.al_statements.specs.declared.script.Statement.{Statement}
 use Rattle.al_statements.specs.declared.script.Statement.TheVariants as statements
 use Rattle.al_phrases.specs.declared.lexeme.Lexeme.{Lexeme}
 use Rattle.al_phrases.specs.Kinds as k
-use Rattle.al_phrases.specs.Words.{kind_of, one_of, word, ◌▸◌}
+use Rattle.al_phrases.specs.Words.{kind_of, one_of, ◌▸◌}
 use Rattle.al_phrases.specs.Rows.{in_turn}
 use Rattle.al_altersql.specs.Alter.{levels, alter_table_shape, alter_table}
 use Rattle.al_sql.specs.Transactions as transactions

@@ -1,5 +1,6 @@
 -- LOCK TABLE, CREATE TABLE and DROP TABLE (the manual, the pages of these statements), over tokens.
-use Rattle.std.specs.Prelude.{ℕ, Bool, true, false, ◌==◌, List, [], ◌∷◌, Option, Some, None}
+use Rattle.std.specs.Prelude.{ℕ, Bool, true, false, List, [], ◌∷◌, Option, Some, None}
+use Rattle.al_grammar.specs.Kinds.{among}
 use Rattle.al_grammar.specs.Rules.{Shape, Step, Rule, leaf, leaf_shape, pair, then_rule, both, optional, at_most_once, mapped, or, either, widen}
 use Rattle.al_grammar.specs.Gives.{many_from}
 use Rattle.al_modes.specs.declared.mode.Mode.{Mode}
@@ -96,7 +97,7 @@ element_shape = either (both (at_most_once named_shape) demand_shape) (both bare
 unfoldable pub element : ℕ → Rule Lexeme element_shape Element
 element depth = or kind_of (mapped elements.Constraint (table_constraint depth)) (mapped elements.Column (column_definition depth))
 
--- [ item { "," item } ]
+-- item { "," item }
 unfoldable pub element_list : ℕ → Rule Lexeme (comma_shape element_shape) (List Element)
 element_list depth = comma_list (element depth)
 
@@ -106,11 +107,15 @@ next_element depth = next_of (element depth)
 unfoldable pub elements_from : ℕ → List Element → List Lexeme → Step Lexeme (List Element)
 elements_from depth so_far ts = many_from kind_of (next_element depth) so_far ts
 
+-- "(" [ item { "," item } ] ")"
 abbrev pub elements_shape : Shape
-elements_shape = both (one_of k.left_paren) (both (at_most_once (comma_shape element_shape)) (one_of k.right_paren))
+elements_shape = both (one_of k.left_paren) (either (one_of k.right_paren) (both (comma_shape element_shape) (one_of k.right_paren)))
+
+abbrev pub no_elements : Unit {0} → List Element
+no_elements u = []
 
 unfoldable pub elements_in_parens : ℕ → Rule Lexeme elements_shape (List Element)
-elements_in_parens depth = k.left_paren ▸ (mapped or_none (optional kind_of (element_list depth)) ◂ k.right_paren)
+elements_in_parens depth = k.left_paren ▸ or kind_of (mapped no_elements (word k.right_paren)) (element_list depth ◂ k.right_paren)
 
 -- [ INHERITS "(" names ")" ]
 abbrev pub inherits_shape : Shape
@@ -144,7 +149,7 @@ exists_mark false = widen (leaf_shape exists_first) (word late_exists)
 
 -- a name, and whether it is the word IF
 unfoldable pub first_name : Rule Lexeme name_shape (Bool × List ℕ)
-first_name = leaf kind_of k.names (λ t. Some (t.kind == k.if_word, t.text))
+first_name = leaf kind_of k.names (λ t. Some (among t.kind (k.if_word ∷ []), t.text))
 
 -- what follows it: EXISTS names, where it is IF, or the other names
 abbrev pub following_shape : Shape

@@ -1,8 +1,5 @@
 ghost use Rattle.std.specs.Prelude.{ℕ, true, false, ◌≡◌, ◌<◌, ◌≤◌, List, [], ◌∷◌, length, Some, None, IfOk};
 ghost use Rattle.al_grammar.specs.Gives.{GivesStep};
-ghost use Rattle.al_grammar.specs.Rules.{mapped, optional};
-ghost use Rattle.al_phrases.specs.Words.{kind_of};
-ghost use Rattle.al_sql.specs.Phrases.{or_none};
 ghost use Rattle.al_sql.specs.Tables.{element, next_element, elements_from, element_list, elements_in_parens, inherits, create};
 
 use al_phrases::kinds::{
@@ -82,20 +79,6 @@ fn element_list(
     more_elements(alloc, depth, first, rest)
 }
 
-fn maybe_elements(
-    alloc: Global,
-    depth: u32,
-    tokens: &[Lexeme],
-) -> Result<(ElementList, &[Lexeme]), Cant<usize>>
-    ensures gives { GivesStep (λ x. x.0) (λ x. x.1.now) result ((mapped or_none (optional kind_of (element_list depth))).reads tokens.now) }
-    ensures shorter { IfOk result (λ x. length x.1.now ≤ length tokens.now) }
-{
-    if starts(RIGHT_PAREN, tokens) {
-        return Ok((ListOf::new(alloc), tokens));
-    }
-    element_list(alloc, depth, tokens)
-}
-
 #[tactic(auto, unfolding(crate::specs::Tables::elements_in_parens))]
 fn elements_in_parens(
     alloc: Global,
@@ -106,7 +89,11 @@ fn elements_in_parens(
     ensures shorter { IfOk result (λ x. length x.1.now < length tokens.now) }
 {
     let rest = word(LEFT_PAREN, tokens)?;
-    let (elements, rest) = maybe_elements(alloc, depth, rest)?;
+    if starts(RIGHT_PAREN, rest) {
+        let rest = word(RIGHT_PAREN, rest)?;
+        return Ok((ListOf::new(alloc), rest));
+    }
+    let (elements, rest) = element_list(alloc, depth, rest)?;
     let rest = word(RIGHT_PAREN, rest)?;
     Ok((elements, rest))
 }

@@ -30,7 +30,7 @@ fn exists_mark(may_stand: bool, tokens: &[Lexeme]) -> Result<&[Lexeme], Cant<usi
 }
 
 // A name, and whether it is the word IF.
-#[tactic(auto, unfolding(crate::specs::Tables::first_name))]
+#[tactic(auto, using(crate::proofs::TableLaws::first_on, crate::proofs::TableLaws::first_off))]
 fn first_name(alloc: Global, tokens: &[Lexeme]) -> Result<((bool, Name), &[Lexeme]), Cant<usize>>
     ensures gives { GivesStep (λ x. x.0) (λ x. x.1.now) result (first_name.reads tokens.now) }
     ensures shorter { IfOk result (λ x. length x.1.now < length tokens.now) }
