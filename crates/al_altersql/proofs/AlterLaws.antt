@@ -1,7 +1,7 @@
 -- ALTER TABLE is read lawfully.
-use Rattle.std.proofs.Common.{◌≡◌, ℕ, ℤ, pos, Bool, true, false, List, [], ◌∷◌, ◌++◌, refl}
+use Rattle.std.proofs.Common.{◌≡◌, ℕ, pos, Bool, true, false, List, [], ◌∷◌, ◌++◌, refl}
 use Rattle.al_grammar.specs.Kinds.{among, apart, starts}
-use Rattle.al_grammar.specs.Rules.{Shape, Rule, read, fault, leaf_shape, both, at_most_once, optional, mapped}
+use Rattle.al_grammar.specs.Rules.{Shape, Rule, read, fault, leaf_shape, both, optional}
 use Rattle.al_grammar.specs.Laws.{Lawful}
 use Rattle.al_grammar.proofs.Leaf.{lawful_leaf}
 use Rattle.al_grammar.proofs.Pair.{lawful_pair, lawful_then}
@@ -9,14 +9,13 @@ use Rattle.al_grammar.proofs.Choices.{lawful_or, lawful_optional, lawful_mapped}
 use Rattle.al_grammar.proofs.More.{lawful_widen}
 use Rattle.al_grammar.proofs.Rows.{lawful_next, many_on, many_off, many_stop}
 use Rattle.al_statements.specs.declared.column.Constraint.{Constraint}
-use Rattle.al_statements.specs.declared.column.ColumnDefinition.{ColumnDefinition}
 use Rattle.al_statements.specs.declared.alter.Sub.{Sub}
 use Rattle.al_statements.specs.declared.alter.Sub.TheVariants as subs
 use Rattle.al_statements.specs.declared.alter.Rename.TheVariants as renames
 use Rattle.al_statements.specs.declared.alter.Change.TheVariants as changes
 use Rattle.al_phrases.specs.declared.lexeme.Lexeme.{Lexeme}
 use Rattle.al_phrases.specs.Kinds as k
-use Rattle.al_phrases.specs.Words.{kind_of, one_of, word, given, is_there, name, ◌▸◌, ◌◂◌}
+use Rattle.al_phrases.specs.Words.{kind_of, one_of, word, given, is_there, name}
 use Rattle.al_phrases.specs.Types.{type_name}
 use Rattle.al_phrases.specs.Expressions.{expression, concatenation}
 use Rattle.al_phrases.specs.Columns.{table_constraint, column_definition}
