@@ -8,10 +8,11 @@ use Rattle.al_phrases.specs.Kinds as k
 use Rattle.al_phrases.specs.Words.{kind_of, one_of, word, is_there, ◌▸◌}
 use Rattle.al_phrases.specs.Expressions.{or_shape, expression}
 
--- one of several words, for which it stands alone
+-- one of several words
 abbrev pub word_among : (kinds : List ℕ) → Rule Lexeme (leaf_shape kinds) (Unit {0})
 word_among kinds = leaf kind_of kinds (λ t. Some tt)
 
+-- whether one of several words stands there
 abbrev pub given_among : (kinds : List ℕ) → Rule Lexeme (at_most_once (leaf_shape kinds)) Bool
 given_among kinds = mapped is_there (optional kind_of (word_among kinds))
 
@@ -41,7 +42,7 @@ condition_shape = both (one_of k.where_word) or_shape
 unfoldable pub condition : ℕ → Rule Lexeme (at_most_once condition_shape) (Option Expr)
 condition depth = optional kind_of (k.where_word ▸ expression depth)
 
--- texts of a rule that begin with none of these kinds
+-- the texts of a rule that begin with none of these kinds
 pub record IsBarred {A : Type 0} (kinds : List ℕ) (Is : List Lexeme → A → Type 0) (text : List Lexeme) (v : A) : Type 0 where
   pub is : Is text v
   pub other : starts kind_of false kinds text ≡ false
@@ -52,7 +53,7 @@ barring kinds w p = record {
   reads = λ ts. if starts kind_of false kinds ts then fault (length ts) else p.reads ts;
 }
 
--- kinds that don't stand in a list
+-- a list of kinds without some of them
 abbrev pub without : List ℕ → List ℕ → List ℕ
 without kinds [] = []
 without kinds (n ∷ ns) = if among n kinds then without kinds ns else n ∷ without kinds ns

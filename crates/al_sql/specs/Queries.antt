@@ -196,13 +196,15 @@ abbrev pub from_or_row : List Output → Option Rest → Query
 from_or_row outputs None = queries.Row outputs
 from_or_row outputs (Some rest) = with_rest (lists.Outputs outputs) rest
 
+-- "*" FROM ..
 unfoldable pub all_columns : ℕ → Rule Lexeme (both (one_of k.star) from_shape) Query
 all_columns depth = mapped (with_rest lists.All) (k.star ▸ from depth true)
 
+-- agg { "," agg } FROM .., without FOR
 unfoldable pub all_rows : ℕ → Rule Lexeme (both (comma_shape aggregate_shape) from_shape) Query
 all_rows depth = pair (λ aggregates rest. with_rest (lists.Aggregates aggregates) rest) (aggregate_list depth) (from depth false)
 
--- an output doesn't begin the list with the word of an aggregate
+-- A list that begins with one of these words is one of aggregates.
 abbrev pub aggregate_words : List ℕ
 aggregate_words = k.count_call ∷ extremes
 
@@ -212,10 +214,11 @@ rows_shape = both (comma_shape output_shape) (at_most_once from_shape)
 abbrev pub each_row_shape : Shape
 each_row_shape = record { empty = false; first = without aggregate_words rows_shape.first; after = rows_shape.after }
 
+-- out { "," out } [ FROM .. ]
 unfoldable pub each_row : ℕ → Rule Lexeme rows_shape Query
 each_row depth = pair from_or_row (output_list depth) (optional kind_of (from depth true))
 
--- "*" and FROM | agg { "," agg } and FROM without FOR | out { "," out } [ FROM ]
+-- one of these three, by its first token
 abbrev pub selected_shape : Shape
 selected_shape = record {
   empty = false;

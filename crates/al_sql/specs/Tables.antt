@@ -23,9 +23,6 @@ use Rattle.al_sql.specs.Phrases.{or_none, comma_next, next_of}
 -- ---- LOCK
 
 -- ACCESS ( SHARE | EXCLUSIVE ), and ROW ( SHARE | EXCLUSIVE )
-abbrev pub strengths : List ℕ
-strengths = k.share_word ∷ k.exclusive_word ∷ []
-
 abbrev pub strength : Mode → Mode → Rule Lexeme (either (one_of k.share_word) (one_of k.exclusive_word)) Mode
 strength share exclusive = or kind_of (mapped (λ u. share) (word k.share_word)) (mapped (λ u. exclusive) (word k.exclusive_word))
 
