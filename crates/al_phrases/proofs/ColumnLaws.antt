@@ -39,7 +39,7 @@ lawful_check : (depth : ℕ) → Lawful kind_of (c.check depth)
 unfolding c.check
 lawful_check depth = lawful_front _ _ _ (lawful_pair _ _ _ _ _ _ kind_of (c.condition depth) c.no_inherit (λ x alone. (x, alone)) (lawful_condition depth) lawful_no_inherit refl) k.check_word refl
 
-lawful_names_in_parens : Lawful kind_of c.names_in_parens
+pub lawful_names_in_parens : Lawful kind_of c.names_in_parens
 unfolding c.names_in_parens
 lawful_names_in_parens = lawful_front _ _ _ (lawful_back _ _ name_list lawful_name_list k.right_paren refl refl) k.left_paren refl
 

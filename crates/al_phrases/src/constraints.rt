@@ -58,8 +58,12 @@ pub(crate) fn check(
     Ok(((value, alone), rest))
 }
 
+/// Reads names in parentheses, with commas between.
 #[tactic(auto, unfolding(crate::specs::Columns::names_in_parens))]
-fn names_in_parens(alloc: Global, tokens: &[Lexeme]) -> Result<(NameList, &[Lexeme]), Cant<usize>>
+pub fn names_in_parens(
+    alloc: Global,
+    tokens: &[Lexeme],
+) -> Result<(NameList, &[Lexeme]), Cant<usize>>
     ensures gives { GivesStep (λ x. x.0) (λ x. x.1.now) result (names_in_parens.reads tokens.now) }
     ensures shorter { IfOk result (λ x. length x.1.now < length tokens.now) }
 {
@@ -69,7 +73,8 @@ fn names_in_parens(alloc: Global, tokens: &[Lexeme]) -> Result<(NameList, &[Lexe
     Ok((names, rest))
 }
 
-fn optional_names(
+/// Reads names in parentheses where they stand.
+pub fn optional_names(
     alloc: Global,
     tokens: &[Lexeme],
 ) -> Result<(Option<NameList>, &[Lexeme]), Cant<usize>>

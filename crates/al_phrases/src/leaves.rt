@@ -30,7 +30,7 @@ pub(crate) fn among(kind: u8, kinds: &[u8]) -> bool
 }
 
 /// Whether the first token is of one of these kinds.
-pub(crate) fn starts_among(kinds: &[u8], tokens: &[Lexeme]) -> bool
+pub fn starts_among(kinds: &[u8], tokens: &[Lexeme]) -> bool
     ensures { result ≡ starts kind_of false kinds.now tokens.now }
 {
     match tokens.first() {
@@ -56,7 +56,7 @@ pub(crate) fn place_of(kind: u8, tokens: &[Lexeme]) -> Result<(u32, &[Lexeme]), 
 }
 
 /// Reads a word that may be left out: whether it stands there.
-pub(crate) fn given(kind: u8, tokens: &[Lexeme]) -> (bool, &[Lexeme])
+pub fn given(kind: u8, tokens: &[Lexeme]) -> (bool, &[Lexeme])
     ensures gives { (given kind).reads tokens.now ≡ read result.0 result.1.now }
     ensures shorter { length result.1.now ≤ length tokens.now }
 {

@@ -20,7 +20,8 @@ mod tokens;
 mod types;
 
 pub use columns::column_definition;
-pub use constraints::table_constraint;
+pub use constraints::{names_in_parens, optional_names, table_constraint};
+pub use leaves::{given, starts_among};
 pub use levels::{concatenation, expression};
 pub use lexeme::{Lexeme, LexemeList};
 pub use names::name_list;

@@ -1,0 +1,19 @@
+//! Reads ALTER TABLE over tokens (the manual, ALTER TABLE).
+#![tactic(auto)]
+
+mod action;
+mod additions;
+mod alterations;
+mod numbers;
+mod removals;
+mod renames;
+mod statement;
+mod storage;
+mod subcommands;
+mod targets;
+#[cfg(test)]
+mod tests;
+
+pub use numbers::sint;
+pub use statement::{LEVELS, alter};
+pub use targets::target;

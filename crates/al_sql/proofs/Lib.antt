@@ -1,0 +1,7 @@
+pub mod BarringLaw
+pub mod PhraseLaws
+pub mod TransactionLaws
+pub mod TableLaws
+pub mod RowLaws
+pub mod QueryLaws
+pub mod ScriptLaws
