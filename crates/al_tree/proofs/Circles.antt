@@ -1,10 +1,11 @@
 -- Links that are added and ended, and circles.
-use Rattle.std.proofs.Common.{◌≡◌, ℕ, ◌⊎◌, inl, inr, ⊎_elim, Bool, true, false, cond, not, ◌||◌, ◌&&◌, List, [], refl, sym, ◌∙◌, ap, subst, Result, Ok, Err, OnOk, OnErr}
+use Rattle.std.proofs.Common.{◌≡◌, ℕ, ◌⊎◌, inl, inr, ⊎_elim, Bool, true, false, cond, not, ◌||◌, ◌&&◌, List, [], refl, sym, ◌∙◌, ap, subst, Option, None, Result, Ok, Err, OnOk, OnErr}
 use Rattle.std.specs.Prelude.{◌==◌}
 use Rattle.std.proofs.lemmas.Bool.{eqb-true, or_cases, and_parts, or_left}
+use Rattle.al_tree.specs.declared.fault.LinkFault.{LinkFault}
 use Rattle.al_tree.specs.declared.line.Line.{Line}
 use Rattle.al_tree.specs.Ascending.{is_among, put, without}
-use Rattle.al_tree.specs.Links.{Inherits, Descends, has_link, children_of, ClosesCircle, HasNoCircle, HasOneMore, HasOneLess}
+use Rattle.al_tree.specs.Links.{Inherits, Descends, has_link, children_of, fault_of, ClosesCircle, HasNoCircle, HasOneMore, HasOneLess}
 use Rattle.al_tree.specs.Lines.{AreLines, links_in, children_in, has_line, put_line, with_children}
 use Rattle.al_tree.proofs.Sorted.{among-put, among-without, put-ascends, without-ascends}
 use Rattle.al_tree.proofs.LineLemmas.{links-are, link-child, links-put, put-are_lines, put-keeps, put-there, tables-with, children-with, all-with, with-none, no-line-no-children}
@@ -57,6 +58,11 @@ more-no-circle links after child parent more free none t d =
     ⊎_elim (λ o. none t o) (λ k. free (round links child parent t k.to_parent k.from_child)) (ways links after child parent t more t d)
 
 -- ---- a link that is there already
+-- a link that isn't refused closes no circle
+pub no-fault : (closes there : Bool) (fault : Option LinkFault) → fault ≡ fault_of closes there → fault ≡ None → closes ≡ false
+no-fault true there fault e f = absurd (cc)
+no-fault false there fault e f = refl
+
 pub there-already : (links : List Inherits) (child parent : ℕ) → has_link links child parent ≡ true → HasOneMore links links child parent
 there-already links child parent h c p = by (child == c) refl (parent == p) refl where
   or-false : (b : Bool) → b ≡ (b || false)

@@ -1,66 +1,24 @@
--- The family that the marks give.
-use Rattle.std.proofs.Common.{◌≡◌, ℕ, ◌<◌, ◌↔◌, Bool, true, false, cond, not, ◌||◌, ◌&&◌, List, [], ◌∷◌, refl, sym, ◌∙◌, ap, subst, arith, Result, Ok, Err, IfOk}
+-- The family that a search has met.
+use Rattle.std.proofs.Common.{◌≡◌, ℕ, ◌<◌, ◌↔◌, Bool, true, false, not, ◌||◌, List, [], ◌∷◌, refl, sym, ◌∙◌, ap, subst, arith, Result, Ok, Err, IfOk}
 use Rattle.std.specs.Prelude.{◌==◌}
 use Rattle.std.proofs.lemmas.Bool.{eqb-true, eqb-false, eq-eqb, ne_eqb, and_parts, and_from, not-true, not_from_false, both_ways}
 use Rattle.al_tree.specs.declared.line.Line.{Line}
-use Rattle.al_tree.specs.Ascending.{AllAbove, Ascends, is_among}
+use Rattle.al_tree.specs.Ascending.{AllAbove, Ascends, is_among, without}
 use Rattle.al_tree.specs.Links.{Inherits, Descends, IsFamily}
-use Rattle.al_tree.specs.Lines.{AreLines, links_in, tables_of}
-use Rattle.al_tree.specs.Marks.{marked, chosen}
-use Rattle.al_tree.proofs.Sorted.{above-out}
+use Rattle.al_tree.specs.Lines.{links_in}
+use Rattle.al_tree.proofs.Sorted.{above-out, among-without, without-ascends}
 
-above-chosen : (least table : ℕ) (lines : List Line) (marks : List Bool) → AllAbove least (tables_of lines) → AllAbove least (chosen table lines marks)
-above-chosen least table [] marks all = tt
-above-chosen least table (line ∷ lines) [] all = tt
-above-chosen least table (line ∷ lines) (m ∷ marks) all = by (m && not (line.table == table)) (above-chosen least table lines marks all.1) where
-  by : (b : Bool) → AllAbove least (chosen table lines marks) → AllAbove least (cond b (line.table ∷ chosen table lines marks) (chosen table lines marks))
-  by true more = (all.0, more)
-  by false more = more
-
-chosen-ascends : (table : ℕ) (lines : List Line) (marks : List Bool) → Ascends (tables_of lines) → Ascends (chosen table lines marks)
-chosen-ascends table [] marks all = tt
-chosen-ascends table (line ∷ lines) [] all = tt
-chosen-ascends table (line ∷ lines) (m ∷ marks) all = by (m && not (line.table == table)) (chosen-ascends table lines marks all.1) where
-  by : (b : Bool) → Ascends (chosen table lines marks) → Ascends (cond b (line.table ∷ chosen table lines marks) (chosen table lines marks))
-  by true more = (above-chosen line.table table lines marks all.0, more)
-  by false more = more
-
-among-chosen : (t table : ℕ) (lines : List Line) (marks : List Bool) → Ascends (tables_of lines) → is_among t (chosen table lines marks) ≡ (marked lines marks t && not (t == table))
-among-chosen t table [] marks all = refl
-among-chosen t table (line ∷ lines) [] all = refl
-among-chosen t table (line ∷ lines) (m ∷ marks) all = by (line.table == t) refl m (among-chosen t table lines marks all.1) where
-  other : (b : Bool) → (line.table == t) ≡ false → is_among t (chosen table lines marks) ≡ (marked lines marks t && not (t == table))
-      → is_among t (cond b (line.table ∷ chosen table lines marks) (chosen table lines marks)) ≡ (marked lines marks t && not (t == table))
-  other true e more = rw e more
-  other false e more = more
-
-  out : line.table ≡ t → is_among t (chosen table lines marks) ≡ false
-  out e = above-out t (chosen table lines marks) (above-chosen t table lines marks (subst (λ (n : ℕ). AllAbove n (tables_of lines)) e all.0))
-
-  same : (m b : Bool) → line.table ≡ t → (line.table == t) ≡ true → is_among t (chosen table lines marks) ≡ false
-      → is_among t (cond (m && not b) (line.table ∷ chosen table lines marks) (chosen table lines marks)) ≡ (m && not b)
-  same true true e f o = o
-  same true false e f o = rw f refl
-  same false b e f o = o
-
-  by : (b : Bool) → (line.table == t) ≡ b → (m : Bool) → is_among t (chosen table lines marks) ≡ (marked lines marks t && not (t == table))
-      → is_among t (cond (m && not (line.table == table)) (line.table ∷ chosen table lines marks) (chosen table lines marks)) ≡ (cond b m (marked lines marks t) && not (t == table))
-  by true e m more =
-      let here = eqb-true line.table t e in
-      same m (line.table == table) here e (out here) ∙ ap (λ (n : ℕ). m && not (n == table)) here
-  by false e m more = other _ e more
-
-pub family-is : (lines : List Line) (table : ℕ) (marks : List Bool) (family : List ℕ) → AreLines lines
-    → ((t : ℕ) → (marked lines marks t ≡ true) ↔ Descends (links_in lines) table t)
-    → family ≡ table ∷ chosen table lines marks → IsFamily (links_in lines) table family
-family-is lines table marks family are found e = record {
-  others = chosen table lines marks;
+pub family-is : (lines : List Line) (table : ℕ) (met family : List ℕ) → Ascends met
+    → ((t : ℕ) → (is_among t met ≡ true) ↔ Descends (links_in lines) table t)
+    → family ≡ table ∷ without table met → IsFamily (links_in lines) table family
+family-is lines table met family up found e = record {
+  others = without table met;
   first = e;
-  ascends = chosen-ascends table lines marks are.tables;
+  ascends = without-ascends table met up;
   members = λ t.
-      let same = among-chosen t table lines marks are.tables in (
-        λ h. let p = and_parts (marked lines marks t) (not (t == table)) (sym same ∙ h) in ((found t).0 p.0, eqb-false t table (not-true (t == table) p.1)),
-        λ d. same ∙ and_from _ _ ((found t).1 d.0) (not_from_false (t == table) (ne_eqb t table d.1)),
+      let same = among-without t table met in (
+        λ h. let p = and_parts (is_among t met) (not (table == t)) (sym same ∙ h) in ((found t).0 p.0, λ d. eqb-false table t (not-true (table == t) p.1) (sym d)),
+        λ d. same ∙ and_from _ _ ((found t).1 d.0) (not_from_false (table == t) (ne_eqb table t (λ f. d.1 (sym f)))),
       );
 }
 
@@ -115,11 +73,11 @@ pub one_family : (links : List Inherits) (table : ℕ) (one other : List ℕ) �
 one_family links table one other a b =
     a.first ∙ ap (λ ts. table ∷ ts) (same-rest a.others b.others a.ascends b.ascends (λ t. same-truth _ _ _ (a.members t) (b.members t))) ∙ sym b.first
 
-pub family-listed : {E : Type 0} (links : List Inherits) (table : ℕ) (r : Result (List ℕ) E) (lines first second : List Line) (marks slice : List Bool) → links_in lines ≡ links → AreLines lines
-    → first ≡ lines → ((t : ℕ) → (marked first marks t ≡ true) ↔ Descends (links_in first) table t) → second ≡ lines → slice ≡ marks
-    → IfOk r (λ family. family ≡ table ∷ chosen table second slice) → IfOk r (IsFamily links table)
-family-listed links table (Err e) lines first second marks slice view are a found b d h = tt
-family-listed links table (Ok family) lines first second marks slice view are a found b d h =
+pub family-listed : {E : Type 0} (links : List Inherits) (table : ℕ) (r : Result (List ℕ) E) (lines slice : List Line) (met items : List ℕ) → links_in lines ≡ links → slice ≡ lines
+    → Ascends met → ((t : ℕ) → (is_among t met ≡ true) ↔ Descends (links_in slice) table t) → items ≡ met
+    → IfOk r (λ family. family ≡ table ∷ without table items) → IfOk r (IsFamily links table)
+family-listed links table (Err e) lines slice met items view a up found b h = tt
+family-listed links table (Ok family) lines slice met items view a up found b h =
     subst (λ (ls : List Inherits). IsFamily ls table family) view
-    (family-is lines table marks family are (subst (λ (ls : List Line). (t : ℕ) → (marked ls marks t ≡ true) ↔ Descends (links_in ls) table t) a found)
-    (h ∙ ap (λ (ls : List Line). table ∷ chosen table ls slice) b ∙ ap (λ (ms : List Bool). table ∷ chosen table lines ms) d))
+    (family-is lines table met family up (subst (λ (ls : List Line). (t : ℕ) → (is_among t met ≡ true) ↔ Descends (links_in ls) table t) a found)
+    (h ∙ ap (λ (ms : List ℕ). table ∷ without table ms) b))

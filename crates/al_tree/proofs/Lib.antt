@@ -2,7 +2,6 @@ mod Places
 mod Bisected
 mod Sorted
 mod LineLemmas
-mod Marking
 mod Searches
 mod Families
 mod Circles

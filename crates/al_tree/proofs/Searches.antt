@@ -1,39 +1,40 @@
--- A search through the descendants of a table: what is marked, and what is left to look at.
-use Rattle.std.proofs.Common.{◌≡◌, ℕ, ◌↔◌, ◌⊎◌, inl, inr, ⊎_elim, Bool, true, false, cond, ◌||◌, ◌&&◌, List, [], ◌∷◌, ◌++◌, refl, sym, ◌∙◌, ap, subst, arith, fold, length, replicate, take, ◌-◌}
+-- A search through the descendants of a table: what it has met, and what is left to look at.
+use Rattle.std.proofs.Common.{◌≡◌, ℕ, ◌+◌, ◌≤◌, ◌↔◌, ◌⊎◌, inl, inr, ⊎_elim, Bool, true, false, cond, ◌||◌, List, [], ◌∷◌, ◌++◌, refl, sym, ◌∙◌, ap, subst, arith, fold, length, take, ◌-◌, Result, OnOk}
 use Rattle.std.specs.Prelude.{◌==◌}
-use Rattle.std.proofs.lemmas.Bool.{eqb-true, eq-eqb, or_cases, and_parts, or_left, or_right, and_from, both_ways}
+use Rattle.std.proofs.lemmas.Bool.{eqb-true, eq-eqb, or_cases, or_left, or_right}
 use Rattle.std.proofs.lemmas.List.Folds.{list_any-append}
-use Rattle.std.proofs.lemmas.List.{length-replicate}
+use Rattle.std.proofs.lemmas.List.{length-append}
+use Rattle.std.proofs.lemmas.Result.{on_ok_weaker}
 use Rattle.al_tree.specs.declared.line.Line.{Line}
-use Rattle.al_tree.specs.Ascending.{is_among}
+use Rattle.al_tree.specs.Ascending.{Ascends, is_among, put}
 use Rattle.al_tree.specs.Links.{Descends, has_link}
 use Rattle.al_tree.specs.Lines.{AreLines, links_in, children_in, has_line}
-use Rattle.al_tree.specs.Marks.{Search, marked, unmarked, with_mark, found}
+use Rattle.al_tree.specs.Met.{Search, found, unmet, work}
+use Rattle.al_tree.proofs.Sorted.{among-put, put-ascends}
 use Rattle.al_tree.proofs.LineLemmas.{links-are}
-use Rattle.al_tree.proofs.Marking.{mark-len, mark-marks, marked-already, line-of-unmarked, nothing-marked}
 
 -- a table that the search has come to
-abbrev pub IsReached : List Line → ℕ → List Bool → ℕ → Type 0
-IsReached lines root marks t = (t ≡ root) ⊎ (marked lines marks t ≡ true)
+abbrev pub IsReached : ℕ → List ℕ → ℕ → Type 0
+IsReached root met t = (t ≡ root) ⊎ (is_among t met ≡ true)
 
--- the children of a table are marked
-abbrev pub AreMarked : List Line → List Bool → List ℕ → Type 0
-AreMarked lines marks children = (c : ℕ) → is_among c children ≡ true → marked lines marks c ≡ true
+-- the children of a table were met
+abbrev pub AreMet : List ℕ → List ℕ → Type 0
+AreMet met children = (c : ℕ) → is_among c children ≡ true → is_among c met ≡ true
 
 -- between two tables
 pub record Searching (lines : List Line) (root : ℕ) (s : Search) : Type 0 where
-  pub len : length s.marks ≡ length lines
-  pub sound : (t : ℕ) → marked lines s.marks t ≡ true → Descends (links_in lines) root t
-  pub waits : (t : ℕ) → is_among t s.todo ≡ true → IsReached lines root s.marks t
-  pub closed : (t : ℕ) → IsReached lines root s.marks t → (is_among t s.todo ≡ true) ⊎ AreMarked lines s.marks (children_in lines t)
+  pub ascends : Ascends s.met
+  pub sound : (t : ℕ) → is_among t s.met ≡ true → Descends (links_in lines) root t
+  pub waits : (t : ℕ) → is_among t s.todo ≡ true → IsReached root s.met t
+  pub closed : (t : ℕ) → IsReached root s.met t → (is_among t s.todo ≡ true) ⊎ AreMet s.met (children_in lines t)
 
 -- amid the children of a table
 pub record Amid (lines : List Line) (root next : ℕ) (s : Search) : Type 0 where
-  pub len : length s.marks ≡ length lines
-  pub sound : (t : ℕ) → marked lines s.marks t ≡ true → Descends (links_in lines) root t
-  pub waits : (t : ℕ) → is_among t s.todo ≡ true → IsReached lines root s.marks t
-  pub reached : IsReached lines root s.marks next
-  pub closed : (t : ℕ) → IsReached lines root s.marks t → (t ≡ next) ⊎ ((is_among t s.todo ≡ true) ⊎ AreMarked lines s.marks (children_in lines t))
+  pub ascends : Ascends s.met
+  pub sound : (t : ℕ) → is_among t s.met ≡ true → Descends (links_in lines) root t
+  pub waits : (t : ℕ) → is_among t s.todo ≡ true → IsReached root s.met t
+  pub reached : IsReached root s.met next
+  pub closed : (t : ℕ) → IsReached root s.met t → (t ≡ next) ⊎ ((is_among t s.todo ≡ true) ⊎ AreMet s.met (children_in lines t))
 
 either : (P : Type 0) (a b : Bool) → (a ≡ true → P) → (b ≡ true → P) → (a || b) ≡ true → P
 either P a b left right e = ⊎_elim left right (or_cases a b e)
@@ -44,189 +45,211 @@ among-push t c todo = list_any-append (λ other. other == t) todo (c ∷ []) ∙
   by true = refl
   by false = refl
 
--- ---- one table found
+-- ---- one table come to
 
-pub record Finds (lines : List Line) (s after : Search) (c : ℕ) : Type 0 where
-  pub len : length after.marks ≡ length s.marks
-  pub grows : (t : ℕ) → marked lines s.marks t ≡ true → marked lines after.marks t ≡ true
+pub record Finds (s after : Search) (c : ℕ) : Type 0 where
+  pub ascends : Ascends after.met
+  pub grows : (t : ℕ) → is_among t s.met ≡ true → is_among t after.met ≡ true
   pub todo_grows : (t : ℕ) → is_among t s.todo ≡ true → is_among t after.todo ≡ true
-  pub marks : (t : ℕ) → marked lines after.marks t ≡ true → (marked lines s.marks t ≡ true) ⊎ ((t ≡ c) × (is_among t after.todo ≡ true))
-  pub todo : (t : ℕ) → is_among t after.todo ≡ true → (is_among t s.todo ≡ true) ⊎ (marked lines after.marks t ≡ true)
-  pub there : has_line lines c ≡ true → marked lines after.marks c ≡ true
+  pub met : (t : ℕ) → is_among t after.met ≡ true → (is_among t s.met ≡ true) ⊎ ((t ≡ c) × (is_among t after.todo ≡ true))
+  pub todo : (t : ℕ) → is_among t after.todo ≡ true → (is_among t s.todo ≡ true) ⊎ (is_among t after.met ≡ true)
+  pub there : is_among c after.met ≡ true
 
-finds_by : (lines : List Line) (s : Search) (c : ℕ) → length s.marks ≡ length lines → (b : Bool) → unmarked lines s.marks c ≡ b
-    → Finds lines s (cond b (record { marks = with_mark lines s.marks c; todo = s.todo ++ c ∷ [] }) s) c
-finds_by lines s c len true e =
-    let line = line-of-unmarked c lines s.marks e in
-    let here : (c == c) ≡ true = eq-eqb c c refl in
-    record {
-      len = mark-len c lines s.marks;
-      grows = λ t h. mark-marks c t lines s.marks len ∙ or_left _ _ h;
-      todo_grows = λ t h. among-push t c s.todo ∙ or_left _ _ h;
-      marks = λ t h. either _ (marked lines s.marks t) ((c == t) && has_line lines c) (λ m. inl m)
-          (λ m. let same = eqb-true c t (and_parts (c == t) _ m).0 in inr (sym same, among-push t c s.todo ∙ or_right _ _ (and_parts (c == t) _ m).0)) (sym (mark-marks c t lines s.marks len) ∙ h);
-      todo = λ t h. either _ (is_among t s.todo) (c == t) (λ m. inl m)
-          (λ m. inr (mark-marks c t lines s.marks len ∙ or_right _ _ (and_from _ _ m line))) (sym (among-push t c s.todo) ∙ h);
-      there = λ h. mark-marks c c lines s.marks len ∙ or_right _ _ (and_from _ _ here line);
-    }
-finds_by lines s c len false e = record {
-  len = refl;
+finds_by : (s : Search) (c : ℕ) → Ascends s.met → (b : Bool) → is_among c s.met ≡ b
+    → Finds s (cond b s (record { met = put c s.met; todo = s.todo ++ c ∷ [] })) c
+finds_by s c up true e = record {
+  ascends = up;
   grows = λ t h. h;
   todo_grows = λ t h. h;
-  marks = λ t h. inl h;
+  met = λ t h. inl h;
   todo = λ t h. inl h;
-  there = λ h. marked-already c lines s.marks len h e;
+  there = e;
+}
+finds_by s c up false e = record {
+  ascends = put-ascends c s.met e up;
+  grows = λ t h. among-put t c s.met ∙ or_left _ _ h;
+  todo_grows = λ t h. among-push t c s.todo ∙ or_left _ _ h;
+  met = λ t h. either _ (is_among t s.met) (c == t) (λ m. inl m)
+      (λ m. inr (sym (eqb-true c t m), among-push t c s.todo ∙ or_right _ _ m)) (sym (among-put t c s.met) ∙ h);
+  todo = λ t h. either _ (is_among t s.todo) (c == t) (λ m. inl m) (λ m. inr (among-put t c s.met ∙ or_right _ _ m)) (sym (among-push t c s.todo) ∙ h);
+  there = among-put c c s.met ∙ or_right _ _ (eq-eqb c c refl);
 }
 
-finds : (lines : List Line) (s : Search) (c : ℕ) → length s.marks ≡ length lines → Finds lines s (found lines s c) c
-finds lines s c len = finds_by lines s c len (unmarked lines s.marks c) refl
+finds : (s : Search) (c : ℕ) → Ascends s.met → Finds s (found s c) c
+finds s c up = finds_by s c up (is_among c s.met) refl
 
-reached-on : (lines : List Line) (root : ℕ) (s after : Search) (c t : ℕ) → Finds lines s after c → IsReached lines root s.marks t → IsReached lines root after.marks t
-reached-on lines root s after c t f (inl e) = inl e
-reached-on lines root s after c t f (inr m) = inr (f.grows t m)
+reached-on : (root : ℕ) (s after : Search) (c t : ℕ) → Finds s after c → IsReached root s.met t → IsReached root after.met t
+reached-on root s after c t f (inl e) = inl e
+reached-on root s after c t f (inr m) = inr (f.grows t m)
 
-descends-by : (lines : List Line) (root next c : ℕ) (marks : List Bool) → ((t : ℕ) → marked lines marks t ≡ true → Descends (links_in lines) root t)
-    → IsReached lines root marks next → has_link (links_in lines) c next ≡ true → Descends (links_in lines) root c
-descends-by lines root next c marks sound (inl e) h = Descends.child_of c (subst (λ (n : ℕ). has_link (links_in lines) c n ≡ true) e h)
-descends-by lines root next c marks sound (inr m) h = Descends.child_below c next (sound next m) h
+descends-by : (lines : List Line) (root next c : ℕ) (met : List ℕ) → ((t : ℕ) → is_among t met ≡ true → Descends (links_in lines) root t)
+    → IsReached root met next → has_link (links_in lines) c next ≡ true → Descends (links_in lines) root c
+descends-by lines root next c met sound (inl e) h = Descends.child_of c (subst (λ (n : ℕ). has_link (links_in lines) c n ≡ true) e h)
+descends-by lines root next c met sound (inr m) h = Descends.child_below c next (sound next m) h
 
-amid-found : (lines : List Line) (root next c : ℕ) (s after : Search) → AreLines lines → Finds lines s after c → is_among c (children_in lines next) ≡ true → Amid lines root next s → Amid lines root next after
+amid-found : (lines : List Line) (root next c : ℕ) (s after : Search) → AreLines lines → Finds s after c → is_among c (children_in lines next) ≡ true → Amid lines root next s → Amid lines root next after
 amid-found lines root next c s after are f child amid =
     let link : has_link (links_in lines) c next ≡ true = links-are c next lines are.tables ∙ child in
-    let down : Descends (links_in lines) root c = descends-by lines root next c s.marks amid.sound amid.reached link in
+    let down : Descends (links_in lines) root c = descends-by lines root next c s.met amid.sound amid.reached link in
     record {
-      len = f.len ∙ amid.len;
-      sound = λ t m. ⊎_elim (λ before. amid.sound t before) (λ new. subst (λ (n : ℕ). Descends (links_in lines) root n) (sym new.0) down) (f.marks t m);
-      waits = λ t h. ⊎_elim (λ before. reached-on lines root s after c t f (amid.waits t before)) (λ m. inr m) (f.todo t h);
-      reached = reached-on lines root s after c next f amid.reached;
+      ascends = f.ascends;
+      sound = λ t m. ⊎_elim (λ before. amid.sound t before) (λ new. subst (λ (n : ℕ). Descends (links_in lines) root n) (sym new.0) down) (f.met t m);
+      waits = λ t h. ⊎_elim (λ before. reached-on root s after c t f (amid.waits t before)) (λ m. inr m) (f.todo t h);
+      reached = reached-on root s after c next f amid.reached;
       closed = λ t r. closed_by t r;
     } where
-      kept : (t : ℕ) → ((t ≡ next) ⊎ ((is_among t s.todo ≡ true) ⊎ AreMarked lines s.marks (children_in lines t))) → (t ≡ next) ⊎ ((is_among t after.todo ≡ true) ⊎ AreMarked lines after.marks (children_in lines t))
+      kept : (t : ℕ) → ((t ≡ next) ⊎ ((is_among t s.todo ≡ true) ⊎ AreMet s.met (children_in lines t))) → (t ≡ next) ⊎ ((is_among t after.todo ≡ true) ⊎ AreMet after.met (children_in lines t))
       kept t (inl e) = inl e
       kept t (inr (inl w)) = inr (inl (f.todo_grows t w))
       kept t (inr (inr m)) = inr (inr (λ d h. f.grows d (m d h)))
 
-      closed_by : (t : ℕ) → IsReached lines root after.marks t → (t ≡ next) ⊎ ((is_among t after.todo ≡ true) ⊎ AreMarked lines after.marks (children_in lines t))
+      closed_by : (t : ℕ) → IsReached root after.met t → (t ≡ next) ⊎ ((is_among t after.todo ≡ true) ⊎ AreMet after.met (children_in lines t))
       closed_by t (inl e) = kept t (amid.closed t (inl e))
-      closed_by t (inr m) = ⊎_elim (λ before. kept t (amid.closed t (inr before))) (λ new. inr (inl new.1)) (f.marks t m)
+      closed_by t (inr m) = ⊎_elim (λ before. kept t (amid.closed t (inr before))) (λ new. inr (inl new.1)) (f.met t m)
 
--- ---- all children of a table found
+-- ---- all children of a table
 
 pub record Goes (lines : List Line) (root next : ℕ) (s after : Search) (children : List ℕ) : Type 0 where
   pub amid : Amid lines root next after
-  pub grows : (t : ℕ) → marked lines s.marks t ≡ true → marked lines after.marks t ≡ true
-  pub all : AreMarked lines after.marks children
+  pub grows : (t : ℕ) → is_among t s.met ≡ true → is_among t after.met ≡ true
+  pub all : AreMet after.met children
 
 goes : (lines : List Line) (root next : ℕ) (s : Search) (children : List ℕ) → AreLines lines → ((c : ℕ) → is_among c children ≡ true → is_among c (children_in lines next) ≡ true)
-    → Amid lines root next s → Goes lines root next s (fold (found lines) s children) children
+    → Amid lines root next s → Goes lines root next s (fold found s children) children
 goes lines root next s [] are each amid = record { amid = amid; grows = λ t h. h; all = λ c h. absurd (cc) }
 goes lines root next s (c ∷ children) are each amid =
     let child : is_among c (children_in lines next) ≡ true = each c (or_left _ _ (eq-eqb c c refl)) in
-    let f : Finds lines s (found lines s c) c = finds lines s c amid.len in
-    let more : Goes lines root next (found lines s c) (fold (found lines) (found lines s c) children) children =
-    goes lines root next (found lines s c) children are (λ d h. each d (or_right _ _ h)) (amid-found lines root next c s (found lines s c) are f child amid) in
-    let first : marked lines (fold (found lines) (found lines s c) children).marks c ≡ true = more.grows c (f.there (are.known c next child)) in
+    let f : Finds s (found s c) c = finds s c amid.ascends in
+    let more : Goes lines root next (found s c) (fold found (found s c) children) children =
+    goes lines root next (found s c) children are (λ d h. each d (or_right _ _ h)) (amid-found lines root next c s (found s c) are f child amid) in
+    let first : is_among c (fold found (found s c) children).met ≡ true = more.grows c f.there in
     record {
       amid = more.amid;
       grows = λ t h. more.grows t (f.grows t h);
-      all = λ d h. either _ (c == d) (is_among d children) (λ e. subst (λ (n : ℕ). marked lines (fold (found lines) (found lines s c) children).marks n ≡ true) (eqb-true c d e) first) (more.all d) h;
+      all = λ d h. either _ (c == d) (is_among d children) (λ e. subst (λ (n : ℕ). is_among n (fold found (found s c) children).met ≡ true) (eqb-true c d e) first) (more.all d) h;
     }
 
 -- ---- one table taken
 
-taken : (lines : List Line) (root next : ℕ) (marks : List Bool) (todo : List ℕ) → Searching lines root (record { marks = marks; todo = todo ++ next ∷ [] })
-    → Amid lines root next (record { marks = marks; todo = todo })
-taken lines root next marks todo s = record {
-  len = s.len;
+taken : (lines : List Line) (root next : ℕ) (met todo : List ℕ) → Searching lines root (record { met = met; todo = todo ++ next ∷ [] })
+    → Amid lines root next (record { met = met; todo = todo })
+taken lines root next met todo s = record {
+  ascends = s.ascends;
   sound = s.sound;
   waits = λ t h. s.waits t (among-push t next todo ∙ or_left _ _ h);
   reached = s.waits next (among-push next next todo ∙ or_right _ _ (eq-eqb next next refl));
   closed = λ t r. ⊎_elim (λ w. either _ (is_among t todo) (next == t) (λ h. inr (inl h)) (λ e. inl (sym (eqb-true next t e))) (sym (among-push t next todo) ∙ w)) (λ m. inr (inr m)) (s.closed t r);
 }
 
-done : (lines : List Line) (root next : ℕ) (s : Search) → Amid lines root next s → AreMarked lines s.marks (children_in lines next) → Searching lines root s
+done : (lines : List Line) (root next : ℕ) (s : Search) → Amid lines root next s → AreMet s.met (children_in lines next) → Searching lines root s
 done lines root next s amid all = record {
-  len = amid.len;
+  ascends = amid.ascends;
   sound = amid.sound;
   waits = amid.waits;
-  closed = λ t r. ⊎_elim (λ e. inr (subst (λ (n : ℕ). AreMarked lines s.marks (children_in lines n)) (sym e) all)) (λ o. o) (amid.closed t r);
+  closed = λ t r. ⊎_elim (λ e. inr (subst (λ (n : ℕ). AreMet s.met (children_in lines n)) (sym e) all)) (λ o. o) (amid.closed t r);
 }
 
--- the children of the last table that waits are found
-pub searched : (lines : List Line) (root next : ℕ) (marks : List Bool) (todo : List ℕ) (after : Search) → AreLines lines
-    → Searching lines root (record { marks = marks; todo = todo ++ next ∷ [] })
-    → fold (found lines) (record { marks = marks; todo = todo }) (children_in lines next) ≡ after → Searching lines root after
-searched lines root next marks todo after are s e =
-    let g = goes lines root next (record { marks = marks; todo = todo }) (children_in lines next) are (λ c h. h) (taken lines root next marks todo s) in
+-- the children of the last table that waits are come to
+searched : (lines : List Line) (root next : ℕ) (met todo : List ℕ) (after : Search) → AreLines lines
+    → Searching lines root (record { met = met; todo = todo ++ next ∷ [] })
+    → fold found (record { met = met; todo = todo }) (children_in lines next) ≡ after → Searching lines root after
+searched lines root next met todo after are s e =
+    let g = goes lines root next (record { met = met; todo = todo }) (children_in lines next) are (λ c h. h) (taken lines root next met todo s) in
     subst (λ (a : Search). Searching lines root a) e (done lines root next _ g.amid g.all)
 
--- it has none
-pub passed : (lines : List Line) (root next : ℕ) (marks : List Bool) (todo : List ℕ) → AreLines lines
-    → Searching lines root (record { marks = marks; todo = todo ++ next ∷ [] }) → children_in lines next ≡ []
-    → Searching lines root (record { marks = marks; todo = todo })
-passed lines root next marks todo are s e = searched lines root next marks todo _ are s (rw e refl)
+-- ---- it ends
+
+unmet-less : (c : ℕ) (lines : List Line) (met : List ℕ) → unmet lines (put c met) ≤ unmet lines met
+unmet-less c [] met = omega arith
+unmet-less c (line ∷ lines) met = rw (among-put line.table c met) (by (is_among line.table met) (c == line.table) (unmet-less c lines met)) where
+  by : (a b : Bool) → unmet lines (put c met) ≤ unmet lines met → cond (a || b) (unmet lines (put c met)) (unmet lines (put c met) + 1) ≤ cond a (unmet lines met) (unmet lines met + 1)
+  by true b m = m
+  by false true m = omega (arith, m)
+  by false false m = omega (arith, m)
+
+unmet-fewer : (c : ℕ) (lines : List Line) (met : List ℕ) → has_line lines c ≡ true → is_among c met ≡ false → unmet lines (put c met) + 1 ≤ unmet lines met
+unmet-fewer c [] met h e = absurd (cc)
+unmet-fewer c (line ∷ lines) met h e = rw (among-put line.table c met) (by (line.table == c) refl (λ o. unmet-fewer c lines met o e) h) where
+  on : (a b : Bool) → unmet lines (put c met) + 1 ≤ unmet lines met → cond (a || b) (unmet lines (put c met)) (unmet lines (put c met) + 1) + 1 ≤ cond a (unmet lines met) (unmet lines met + 1)
+  on true b m = m
+  on false true m = omega (arith, m)
+  on false false m = omega (arith, m)
+
+  here : (a b : Bool) → a ≡ false → b ≡ true → unmet lines (put c met) ≤ unmet lines met → cond (a || b) (unmet lines (put c met)) (unmet lines (put c met) + 1) + 1 ≤ cond a (unmet lines met) (unmet lines met + 1)
+  here true b f g m = absurd (cc)
+  here false true f g m = omega (arith, m)
+  here false false f g m = absurd (cc)
+
+  by : (b : Bool) → (line.table == c) ≡ b → (has_line lines c ≡ true → unmet lines (put c met) + 1 ≤ unmet lines met) → (b || has_line lines c) ≡ true
+      → cond (is_among line.table met || (c == line.table)) (unmet lines (put c met)) (unmet lines (put c met) + 1) + 1 ≤ cond (is_among line.table met) (unmet lines met) (unmet lines met + 1)
+  by true f more o =
+      let same = eqb-true line.table c f in
+      here _ _ (ap (λ (n : ℕ). is_among n met) same ∙ e) (eq-eqb c line.table (sym same)) (unmet-less c lines met)
+  by false f more o = on _ _ (more o)
+
+work-found : (lines : List Line) (s : Search) (c : ℕ) → has_line lines c ≡ true → work lines (found s c).met (found s c).todo ≤ work lines s.met s.todo
+work-found lines s c h = by (is_among c s.met) refl where
+  by : (b : Bool) → is_among c s.met ≡ b
+      → work lines (cond b s (record { met = put c s.met; todo = s.todo ++ c ∷ [] })).met (cond b s (record { met = put c s.met; todo = s.todo ++ c ∷ [] })).todo ≤ work lines s.met s.todo
+  by true e = omega arith
+  by false e =
+      let fewer = unmet-fewer c lines s.met h e in
+      let longer : length (s.todo ++ c ∷ []) ≡ length s.todo + 1 = length-append s.todo (c ∷ []) in
+      omega (arith, fewer, longer)
+
+work-each : (lines : List Line) (s : Search) (children : List ℕ) → ((c : ℕ) → is_among c children ≡ true → has_line lines c ≡ true)
+    → work lines (fold found s children).met (fold found s children).todo ≤ work lines s.met s.todo
+work-each lines s [] each = omega arith
+work-each lines s (c ∷ children) each =
+    let one = work-found lines s c (each c (or_left _ _ (eq-eqb c c refl))) in
+    let rest = work-each lines (found s c) children (λ d h. each d (or_right _ _ h)) in
+    omega (arith, one, rest)
+
+pub worked : {T E : Type 0} (r : Result T E) (lines : List Line) (table : ℕ) (s after : Search) → AreLines lines
+    → OnOk r (fold found s (children_in lines table) ≡ after) → OnOk r (work lines after.met after.todo ≤ work lines s.met s.todo)
+worked r lines table s after are ok =
+    on_ok_weaker r (λ e. subst (λ (a : Search). work lines a.met a.todo ≤ work lines s.met s.todo) e (work-each lines s (children_in lines table) (λ c h. are.known c table h))) ok
 
 -- ---- its beginning and its end
 
-pub begun : (lines : List Line) (root n : ℕ) → n ≡ length lines → length (replicate n false) ≡ n → Searching lines root (record { marks = replicate n false; todo = root ∷ [] })
-begun lines root n e l = record {
-  len = l ∙ e;
-  sound = λ t m. absurd (both_ways _ (nothing-marked t lines n) m);
+begun : (lines : List Line) (root : ℕ) → Searching lines root (record { met = []; todo = root ∷ [] })
+begun lines root = record {
+  ascends = tt;
+  sound = λ t m. absurd (cc);
   waits = λ t h. either _ (root == t) false (λ h. inl (sym (eqb-true root t h))) (λ h. absurd (cc)) h;
-  closed = λ t r. ⊎_elim (λ e. inl (or_left (root == t) false (eq-eqb root t (sym e)))) (λ m. absurd (both_ways _ (nothing-marked t lines n) m)) r;
+  closed = λ t r. ⊎_elim (λ e. inl (or_left (root == t) false (eq-eqb root t (sym e)))) (λ m. absurd (cc)) r;
 }
 
-no-more : (P Q : Type 0) → ((false ≡ true) ⊎ P) → P
-no-more P Q (inl e) = absurd (cc)
-no-more P Q (inr p) = p
+no-more : (P : Type 0) → ((false ≡ true) ⊎ P) → P
+no-more P (inl e) = absurd (cc)
+no-more P (inr p) = p
 
-all-found : (lines : List Line) (root : ℕ) (marks : List Bool) → AreLines lines → Searching lines root (record { marks = marks; todo = [] })
-    → (t : ℕ) → Descends (links_in lines) root t → marked lines marks t ≡ true
-all-found lines root marks are s t (Descends.child_of _ h) = no-more _ ℕ (s.closed root (inl refl)) t (sym (links-are t root lines are.tables) ∙ h)
-all-found lines root marks are s t (Descends.child_below _ m d h) =
-    no-more _ ℕ (s.closed m (inr (all-found lines root marks are s m d))) t (sym (links-are t m lines are.tables) ∙ h)
-
-pub found-all : (lines : List Line) (root : ℕ) (marks : List Bool) → AreLines lines → Searching lines root (record { marks = marks; todo = [] })
-    → (t : ℕ) → (marked lines marks t ≡ true) ↔ Descends (links_in lines) root t
-found-all lines root marks are s t = (s.sound t, all-found lines root marks are s t)
+all-found : (lines : List Line) (root : ℕ) (met : List ℕ) → AreLines lines → Searching lines root (record { met = met; todo = [] })
+    → (t : ℕ) → Descends (links_in lines) root t → is_among t met ≡ true
+all-found lines root met are s t (Descends.child_of _ h) = no-more _ (s.closed root (inl refl)) t (sym (links-are t root lines are.tables) ∙ h)
+all-found lines root met are s t (Descends.child_below _ m d h) =
+    no-more _ (s.closed m (inr (all-found lines root met are s m d))) t (sym (links-are t m lines are.tables) ∙ h)
 
 -- ---- by what the calls say
 
-pub begins : (lines : List Line) (root : ℕ) (marks : List Bool) (todo rest : List ℕ) → marks ≡ replicate (length lines) false → todo ≡ rest ++ root ∷ [] → rest ≡ []
-    → Searching lines root (record { marks = marks; todo = todo })
-begins lines root marks todo rest e f g =
-    subst (λ (ms : List Bool). Searching lines root (record { marks = ms; todo = todo })) (sym e)
-    (subst (λ (ts : List ℕ). Searching lines root (record { marks = replicate (length lines) false; todo = ts })) (sym (f ∙ ap (λ (r : List ℕ). r ++ root ∷ []) g))
-    (begun lines root (length lines) refl (length-replicate (length lines) false)))
+pub begins : (lines : List Line) (root : ℕ) (met todo rest : List ℕ) → met ≡ [] → todo ≡ rest ++ root ∷ [] → rest ≡ []
+    → Searching lines root (record { met = met; todo = todo })
+begins lines root met todo rest e f g =
+    subst (λ (ms : List ℕ). Searching lines root (record { met = ms; todo = todo })) (sym e)
+    (subst (λ (ts : List ℕ). Searching lines root (record { met = []; todo = ts })) (sym (f ∙ ap (λ (r : List ℕ). r ++ root ∷ []) g)) (begun lines root))
 
-pub goes-on : (lines : List Line) (root next : ℕ) (marks taken marks' : List Bool) (todo popped todo' children slice : List ℕ) → AreLines lines
-    → Searching lines root (record { marks = marks; todo = todo }) → todo ≡ popped ++ next ∷ [] → taken ≡ marks → slice ≡ children → children ≡ children_in lines next
-    → fold (found lines) (record { marks = taken; todo = popped }) slice ≡ record { marks = marks'; todo = todo' }
-    → Searching lines root (record { marks = marks'; todo = todo' })
-goes-on lines root next marks taken marks' todo popped todo' children slice are s e f g h k =
-    searched lines root next marks popped _ are (subst (λ (ts : List ℕ). Searching lines root (record { marks = marks; todo = ts })) e s)
-    (ap (λ (ms : List Bool). fold (found lines) (record { marks = ms; todo = popped }) (children_in lines next)) (sym f)
-    ∙ ap (λ (cs : List ℕ). fold (found lines) (record { marks = taken; todo = popped }) cs) (sym (g ∙ h)) ∙ k)
-
-pub has-none : (lines : List Line) (root next : ℕ) (marks : List Bool) (todo popped : List ℕ) → AreLines lines
-    → Searching lines root (record { marks = marks; todo = todo }) → todo ≡ popped ++ next ∷ [] → children_in lines next ≡ [] → Searching lines root (record { marks = marks; todo = popped })
-has-none lines root next marks todo popped are s e none =
-    passed lines root next marks popped are (subst (λ (ts : List ℕ). Searching lines root (record { marks = marks; todo = ts })) e s) none
-
-take-front : (new rest : List Bool) → take (length new) (new ++ rest) ≡ new
-take-front [] rest = refl
-take-front (m ∷ new) rest = grind (arith, take-front new rest)
-
--- a slice of all marks is written back
-pub written : (lines : List Line) (root n : ℕ) (marks old taken : List Bool) (todo : List ℕ) → taken ≡ old → length taken ≡ n → length old ≡ length lines
-    → Searching lines root (record { marks = marks; todo = todo }) → (rest : List Bool) → Searching lines root (record { marks = take n (marks ++ rest); todo = todo })
-written lines root n marks old taken todo e f g s rest =
-    let len : length marks ≡ n = s.len ∙ sym g ∙ ap length (sym e) ∙ f in
-    subst (λ (ms : List Bool). Searching lines root (record { marks = ms; todo = todo })) (sym (ap (λ k. take k (marks ++ rest)) (sym len) ∙ take-front marks rest)) s
+pub goes-on : (lines : List Line) (root next : ℕ) (met met' todo popped todo' : List ℕ) → AreLines lines
+    → Searching lines root (record { met = met; todo = todo }) → todo ≡ popped ++ next ∷ []
+    → fold found (record { met = met; todo = popped }) (children_in lines next) ≡ record { met = met'; todo = todo' }
+    → Searching lines root (record { met = met'; todo = todo' })
+goes-on lines root next met met' todo popped todo' are s e f =
+    searched lines root next met popped _ are (subst (λ (ts : List ℕ). Searching lines root (record { met = met; todo = ts })) e s) f
 
 pub nothing-left : (todo popped : List ℕ) (n : ℕ) → todo ≡ popped ++ [] → popped ≡ take (n - 1) todo → n ≡ 0 → todo ≡ []
 nothing-left todo popped n e f g = e ∙ ap (λ (p : List ℕ). p ++ []) (f ∙ ap (λ k. take (k - 1) todo) g)
 
-pub ends : (lines : List Line) (root : ℕ) (marks : List Bool) (todo : List ℕ) → AreLines lines → Searching lines root (record { marks = marks; todo = todo }) → todo ≡ []
-    → (t : ℕ) → (marked lines marks t ≡ true) ↔ Descends (links_in lines) root t
-ends lines root marks todo are s e = found-all lines root marks are (subst (λ (ts : List ℕ). Searching lines root (record { marks = marks; todo = ts })) e s)
+pub ends : (lines : List Line) (root : ℕ) (met todo : List ℕ) → AreLines lines → Searching lines root (record { met = met; todo = todo }) → todo ≡ []
+    → (t : ℕ) → (is_among t met ≡ true) ↔ Descends (links_in lines) root t
+ends lines root met todo are s e t =
+    let whole : Searching lines root (record { met = met; todo = [] }) = subst (λ (ts : List ℕ). Searching lines root (record { met = met; todo = ts })) e s in
+    (whole.sound t, all-found lines root met are whole t)

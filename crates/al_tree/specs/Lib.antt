@@ -1,4 +1,4 @@
 pub mod Ascending
 pub mod Links
 pub mod Lines
-pub mod Marks
+pub mod Met

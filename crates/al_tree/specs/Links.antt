@@ -1,5 +1,5 @@
 -- Which table inherits from which (the manual, 5.10).
-use Rattle.std.specs.Prelude.{◌≡◌, ℕ, List, [], ◌∷◌, Bool, true, false, not, ◌==◌, ◌&&◌, ◌||◌, ◌⊎◌, ◌↔◌, if◌then◌else◌, Result, Ok, Err}
+use Rattle.std.specs.Prelude.{◌≡◌, ℕ, List, [], ◌∷◌, Bool, true, false, not, ◌==◌, ◌&&◌, ◌||◌, ◌⊎◌, ◌↔◌, if◌then◌else◌, Option, Some, None, Result, Ok, Err}
 use Rattle.std.specs.List.{list_any}
 use Rattle.al_values.specs.declared.cant.Cant.{Cant}
 use Rattle.al_values.specs.declared.cant.Cant.TheVariants as cants
@@ -44,6 +44,12 @@ ClosesCircle links child parent = (parent ≡ child) ⊎ Descends links child pa
 -- no table descends from itself
 abbrev pub HasNoCircle : List Inherits → Type 0
 HasNoCircle links = (t : ℕ) → Descends links t t → ⊥
+
+-- why a new link is refused, by whether it closes a circle and whether it is there already
+abbrev pub fault_of : Bool → Bool → Option LinkFault
+fault_of true there = Some faults.Circle
+fault_of false true = Some faults.Twice
+fault_of false false = None
 
 -- what a new link is answered; want of memory is the one free answer
 abbrev pub IsAnswer : {T : Type 0} → List Inherits → ℕ → ℕ → Result T (Cant LinkFault) → Type 0

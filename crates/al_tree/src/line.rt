@@ -1,4 +1,4 @@
-ghost use Rattle.std.specs.Prelude.{◌≡◌, [], ◌≤◌, ◌==◌, length, nat_le, nat_lt, position, if◌then◌else◌, OnOk, OnErr};
+ghost use Rattle.std.specs.Prelude.{◌≡◌, [], ◌≤◌, ◌==◌, not, length, nat_le, nat_lt, position, if◌then◌else◌, OnOk, OnErr};
 ghost use Rattle.std.specs.List.{position_or_len};
 ghost use Rattle.al_tree.specs.Ascending.{Ascends, is_among, put, without};
 ghost use Rattle.al_tree.specs.Lines.{AllAscend, has_line, put_line, tables_of, with_children};
@@ -77,7 +77,7 @@ fn number_place(number: u32, numbers: &[u32]) -> usize
 }
 
 /// A number more in a vector.
-fn put(numbers: &mut Vec<u32>, number: u32) -> Result<(), NoMemory>
+pub(crate) fn put(numbers: &mut Vec<u32>, number: u32) -> Result<(), NoMemory>
     requires { Ascends numbers.old.items }
     ensures ok { OnOk result (numbers.new.items ≡ put number numbers.old.items) }
     ensures err { OnErr result (numbers.new.items ≡ numbers.old.items) }
@@ -87,11 +87,18 @@ fn put(numbers: &mut Vec<u32>, number: u32) -> Result<(), NoMemory>
     Ok(())
 }
 
+/// Whether a number is another than one.
+pub(crate) fn is_other(number: u32, other: u32) -> bool
+    ensures { result ≡ not (other == number) }
+{
+    other != number
+}
+
 /// All but one number.
 fn cut(numbers: &mut Vec<u32>, number: u32)
     ensures { numbers.new.items ≡ without number numbers.old.items }
 {
-    numbers.retain(|other| *other != number);
+    numbers.retain(|other| is_other(number, *other));
 }
 
 /// A child more.

@@ -1,9 +1,10 @@
 ghost use Rattle.std.specs.Prelude.{◌≡◌, ℕ, [], ◌↔◌, true, IfOk, OnOk, OnErr};
 ghost use Rattle.al_tree.specs.Ascending.{Ascends};
-ghost use Rattle.al_tree.specs.Links.{Inherits, has_link, children_of, IsFamily, IsAnswer, HasOneMore, HasOneLess, HasNoCircle, ClosesCircle};
+ghost use Rattle.al_tree.specs.Links.{Inherits, has_link, children_of, IsFamily, IsAnswer, fault_of, HasOneMore, HasOneLess, HasNoCircle, ClosesCircle};
 
+use crate::fault::fault_of;
 use crate::line::{add_child, add_line, cut_line, is_among, line_of};
-use crate::search::{descendants, is_marked, listed};
+use crate::search::{descendants, listed};
 use crate::{Line, LinkFault};
 use al_values::{Cant, IdList, ListOf, NoMemory};
 use std::alloc::Global;
@@ -53,7 +54,7 @@ impl Tree {
         }
     }
 
-    /// The table, then its descendants by ascending number, each once.
+    /// The table, then its descendants by ascending number, each once. It takes the time of these, whatever the tree holds beside them.
     ///
     /// # Errors
     ///
@@ -61,8 +62,8 @@ impl Tree {
     pub fn family(&self, alloc: Global, table: u32) -> Result<IdList, NoMemory>
         ensures { IfOk result (IsFamily self.now table) }
     {
-        let marks = descendants(alloc, &self.lines, table)?;
-        listed(alloc, table, &self.lines, &marks)
+        let met = descendants(alloc, &self.lines, table)?;
+        listed(alloc, table, &met)
     }
 
     /// Makes a table a child of another.
@@ -77,14 +78,20 @@ impl Tree {
         ensures err { OnErr result (self.new ≡ self.old) }
         ensures circles { HasNoCircle self.old → HasNoCircle self.new }
     {
-        if self.closes_circle(alloc, child, parent)? {
-            return Err(Cant::Why(LinkFault::Circle));
-        }
-        if is_among(child, self.children(parent).as_slice()) {
-            return Err(Cant::Why(LinkFault::Twice));
+        let closes = self.closes_circle(alloc, child, parent)?;
+        let there = self.has(child, parent);
+        if let Some(fault) = fault_of(closes, there) {
+            return Err(Cant::Why(fault));
         }
         self.note(alloc, child, parent)?;
         Ok(())
+    }
+
+    /// Whether a table is a child of another.
+    fn has(&self, child: u32, parent: u32) -> bool
+        ensures { result ≡ has_link self.now child parent }
+    {
+        is_among(child, self.children(parent).as_slice())
     }
 
     /// Whether a link would close a circle.
@@ -94,8 +101,8 @@ impl Tree {
         if child == parent {
             return Ok(true);
         }
-        let marks = descendants(alloc, &self.lines, child)?;
-        Ok(is_marked(parent, &self.lines, &marks))
+        let met = descendants(alloc, &self.lines, child)?;
+        Ok(is_among(parent, &met))
     }
 
     /// Notes a link as it is found, without looking for circles. One that is there already stays.
@@ -107,7 +114,7 @@ impl Tree {
         ensures ok { OnOk result (HasOneMore self.old self.new child parent) }
         ensures err { OnErr result (self.new ≡ self.old) }
     {
-        if is_among(child, self.children(parent).as_slice()) {
+        if self.has(child, parent) {
             return Ok(());
         }
         add_line(alloc, &mut self.lines, child)?;
@@ -121,7 +128,7 @@ impl Tree {
         ensures links { HasOneLess self.old self.new child parent }
         ensures circles { HasNoCircle self.old → HasNoCircle self.new }
     {
-        let there = is_among(child, self.children(parent).as_slice());
+        let there = self.has(child, parent);
         cut_line(self.alloc, &mut self.lines, child, parent);
         there
     }

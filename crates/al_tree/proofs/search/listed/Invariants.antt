@@ -1,6 +1,6 @@
 use Rattle.std.proofs.Common.{◌≡◌, ◌∷◌, ◌++◌, drop}
-use Rattle.al_tree.specs.Marks.{chosen}
+use Rattle.al_tree.specs.Ascending.{without}
 use Rattle.al_tree.proofs.search.listed.Given as goal
 
-abbrev pub invariant-loop-at : goal.invariant-loop-at
-invariant-loop-at l = l.family ++ chosen l.table (drop l.at l.lines) (drop l.at l.marks) ≡ l.table ∷ chosen l.table l.lines l.marks
+abbrev pub invariant-loop-other : goal.invariant-loop-other
+invariant-loop-other l = l.family ++ without l.table (drop l.other-index l.met) ≡ l.table ∷ without l.table l.met

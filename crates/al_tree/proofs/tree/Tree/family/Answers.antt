@@ -3,4 +3,4 @@ use Rattle.al_tree.proofs.tree.Tree.family.Goals as goal
 
 pub returns : goal.returns
 returns c =
-    family-listed c.args.self.now c.args.table c.listed.result _ _ _ _ _ c.self.view_is c.self.invariant.0 c.deref.ensures.value c.in_ok-marks.ensures.marks c.deref-2.ensures.value c.deref-3.ensures.value c.listed.ensures
+    family-listed c.args.self.now c.args.table c.listed.result _ _ _ _ c.self.view_is c.deref.ensures.value c.in_ok-met.ensures.ascends c.in_ok-met.ensures.met c.deref-2.ensures.value c.listed.ensures

@@ -3,12 +3,12 @@ use Rattle.std.proofs.lemmas.Result.{on_ok_weaker, on_err_weaker}
 use Rattle.al_tree.specs.declared.line.Line.{Line}
 use Rattle.al_tree.specs.Links.{has_link, HasOneMore}
 use Rattle.al_tree.specs.Lines.{AreLines, links_in}
-use Rattle.al_tree.proofs.Circles.{Lined, lined, Noted, noted, there-already, is-link, kept-either, told-err}
+use Rattle.al_tree.proofs.Circles.{Lined, lined, Noted, noted, there-already, kept-either, told-err}
 use Rattle.al_tree.proofs.tree.Tree.note.Goals as goal
 
-pub returns-then-is_among-clause-ok : goal.returns-then-is_among-clause-ok
-returns-then-is_among-clause-ok c =
-    there-already c.args.self.now c.args.child c.args.parent (is-link c.args.self.now c.args.child c.args.parent _ _ c.children.ensures.value c.as_slice.ensures (sym c.is_among.ensures ∙ c.if-is_among.true))
+pub returns-then-has-clause-ok : goal.returns-then-has-clause-ok
+returns-then-has-clause-ok c =
+    there-already c.args.self.now c.args.child c.args.parent (sym c.has.ensures ∙ c.if-has.true)
 
 pub invariant_of-self-in_err-add_line-2 : goal.invariant_of-self-in_err-add_line-2
 invariant_of-self-in_err-add_line-2 c =
@@ -22,7 +22,7 @@ returns-in_err-add_line-2-clause-err c =
 
 pub invariant_of-self-2 : goal.invariant_of-self-2
 invariant_of-self-2 c =
-    let out : has_link c.args.self.now c.args.child c.args.parent ≡ false = is-link c.args.self.now c.args.child c.args.parent _ _ c.children.ensures.value c.as_slice.ensures (sym c.is_among.ensures ∙ c.if-is_among.false) in
+    let out : has_link c.args.self.now c.args.child c.args.parent ≡ false = sym c.has.ensures ∙ c.if-has.false in
     let one : Lined c.self.inside.lines.items c.add_line.new.lines.items c.args.child = lined _ _ _ c.in_ok-add_line.ensures.ok c.self.invariant.0 in
     let two : Lined c.add_line.new.lines.items c.add_line-2.new.lines.items c.args.parent = lined _ _ _ c.in_ok-add_line-2.ensures.ok one.are in
     let n : Noted c.args.self.now c.add_line-2.new.lines.items c.args.child c.args.parent = noted _ _ _ _ _ _ c.self.invariant.0 c.self.view_is out one two in
@@ -30,7 +30,7 @@ invariant_of-self-2 c =
 
 pub returns-clause-ok : goal.returns-clause-ok
 returns-clause-ok c =
-    let out : has_link c.args.self.now c.args.child c.args.parent ≡ false = is-link c.args.self.now c.args.child c.args.parent _ _ c.children.ensures.value c.as_slice.ensures (sym c.is_among.ensures ∙ c.if-is_among.false) in
+    let out : has_link c.args.self.now c.args.child c.args.parent ≡ false = sym c.has.ensures ∙ c.if-has.false in
     let one : Lined c.self.inside.lines.items c.add_line.new.lines.items c.args.child = lined _ _ _ c.in_ok-add_line.ensures.ok c.self.invariant.0 in
     let two : Lined c.add_line.new.lines.items c.add_line-2.new.lines.items c.args.parent = lined _ _ _ c.in_ok-add_line-2.ensures.ok one.are in
     let n : Noted c.args.self.now c.add_line-2.new.lines.items c.args.child c.args.parent = noted _ _ _ _ _ _ c.self.invariant.0 c.self.view_is out one two in
@@ -38,7 +38,7 @@ returns-clause-ok c =
 
 pub returns-clause-err : goal.returns-clause-err
 returns-clause-err c =
-    let out : has_link c.args.self.now c.args.child c.args.parent ≡ false = is-link c.args.self.now c.args.child c.args.parent _ _ c.children.ensures.value c.as_slice.ensures (sym c.is_among.ensures ∙ c.if-is_among.false) in
+    let out : has_link c.args.self.now c.args.child c.args.parent ≡ false = sym c.has.ensures ∙ c.if-has.false in
     let one : Lined c.self.inside.lines.items c.add_line.new.lines.items c.args.child = lined _ _ _ c.in_ok-add_line.ensures.ok c.self.invariant.0 in
     let two : Lined c.add_line.new.lines.items c.add_line-2.new.lines.items c.args.parent = lined _ _ _ c.in_ok-add_line-2.ensures.ok one.are in
     let n : Noted c.args.self.now c.add_line-2.new.lines.items c.args.child c.args.parent = noted _ _ _ _ _ _ c.self.invariant.0 c.self.view_is out one two in

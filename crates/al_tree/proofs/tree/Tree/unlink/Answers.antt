@@ -1,16 +1,13 @@
-use Rattle.std.proofs.Common.{◌∙◌, refl, sym, subst, List}
+use Rattle.std.proofs.Common.{sym, subst, List}
 use Rattle.al_tree.specs.declared.line.Line.{Line}
 use Rattle.al_tree.specs.Ascending.{without}
 use Rattle.al_tree.specs.Links.{Inherits, HasOneLess}
 use Rattle.al_tree.specs.Lines.{AreLines, links_in, with_children}
-use Rattle.al_tree.proofs.Circles.{is-link, less-are_lines, less-links, less-no-circle}
+use Rattle.al_tree.proofs.Circles.{less-are_lines, less-links, less-no-circle}
 use Rattle.al_tree.proofs.tree.Tree.unlink.Goals as goal
 
 pub invariant_of-self : goal.invariant_of-self
 invariant_of-self c = (subst AreLines (sym c.cut_line.ensures) (less-are_lines c.self.inside.lines.items c.args.child c.args.parent c.self.invariant.0), c.self.invariant.1)
-
-pub returns-clause-answer : goal.returns-clause-answer
-returns-clause-answer c = c.is_among-there.ensures ∙ sym (is-link c.args.self.now c.args.child c.args.parent _ _ c.children.ensures.value c.as_slice.ensures refl)
 
 pub returns-clause-links : goal.returns-clause-links
 returns-clause-links c =
