@@ -8,3 +8,4 @@ mod Vectors
 mod CanonicalNodes
 mod CanonicalRows
 mod CanonicalLaws
+pub mod CanonicalUnplaced
