@@ -11,8 +11,6 @@ mod statement;
 mod storage;
 mod subcommands;
 mod targets;
-#[cfg(test)]
-mod tests;
 
 pub use numbers::sint;
 pub use statement::{LEVELS, alter};

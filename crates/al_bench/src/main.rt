@@ -2,11 +2,18 @@
 //! printed, a sum that depends on all that was done. No clock is read here: the scripts time whole runs.
 #![tactic(auto)]
 
+mod catalogue;
 mod check;
+mod heap;
 mod input;
+mod keys;
+mod parts;
 mod queue;
+mod schema;
+mod tree;
 mod turn;
 mod words;
+mod xacts;
 
 use al_values::NoMemory;
 use std::alloc::Global;
@@ -20,6 +27,7 @@ usage: al_bench queue shared|shared-asks|queued|queued-asks SESSIONS TIMES
        al_bench spec TIMES <FILE
        al_bench tokens TIMES <FILE
        al_bench eval ROWS TIMES
+       al_bench part CRATE CALL TRANSACTIONS EACH TABLES TIMES
 ";
 
 /// Why nothing was counted; the program's status.
@@ -66,6 +74,7 @@ fn perform(rt: &HostRuntime, alloc: Global, task: Task) -> Result<u64, Stop> {
         Task::Spec { times } => input::specs(alloc, &input_of(rt, alloc)?, times)?,
         Task::Tokens { times } => input::texts(alloc, input_of(rt, alloc)?, times)?,
         Task::Eval { rows, times } => check::checks(alloc, rows, times)?,
+        Task::Part { part, size, times } => parts::calls(alloc, part, size, times)?,
     };
     Ok(sum)
 }

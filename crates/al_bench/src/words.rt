@@ -1,5 +1,6 @@
 //! The words of the command line.
 
+use crate::parts::{Part, Size, part_of};
 use crate::queue::Round;
 use crate::turn::Kind;
 use al_modes::Mode;
@@ -34,6 +35,12 @@ pub enum Task {
     /// A CHECK on so many rows.
     Eval {
         rows: u32,
+        times: u32,
+    },
+    /// A call of a crate, over as much as stands there.
+    Part {
+        part: Part,
+        size: Size,
         times: u32,
     },
 }
@@ -101,6 +108,17 @@ pub fn task_of(words: &[Word]) -> Option<Task> {
             beside: number_of(beside)?,
             times: number_of(times)?,
         }),
+        [part, of, call, transactions, each, tables, times] if part.as_str() == "part" => {
+            Some(Task::Part {
+                part: part_of(of.as_str(), call.as_str())?,
+                size: Size {
+                    transactions: number_of(transactions)?,
+                    each: number_of(each)?,
+                    tables: number_of(tables)?,
+                },
+                times: number_of(times)?,
+            })
+        }
         _ => None,
     }
 }

@@ -10,8 +10,6 @@ mod lookup;
 mod names;
 mod places;
 mod search;
-#[cfg(test)]
-mod tests;
 
 pub use catalogue::Catalogue;
 pub use claimed::Claimed;

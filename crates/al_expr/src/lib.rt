@@ -13,14 +13,8 @@ mod held;
 mod kinds;
 mod nominal;
 mod place;
-#[cfg(test)]
-mod root_tests;
 mod roots;
 mod sameness;
-#[cfg(test)]
-mod samples;
-#[cfg(test)]
-mod tests;
 mod texts;
 mod tree;
 mod typing;

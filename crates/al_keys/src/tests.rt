@@ -285,6 +285,113 @@ fn all_short_histories(rt: HostRuntime) -> Result<(), Fail> {
     Ok(())
 }
 
+// Steps by their codes: what the first transaction does, and the second.
+const REMOVES_ROW_0: u32 = 6;
+
+const COMMITS: u32 = 18;
+
+const ABORTS: u32 = 21;
+
+const GIVES_ROW_0_KEY_0: u32 = 0;
+
+const SECOND_GIVES_ROW_1_KEY_0: u32 = 10;
+
+const SECOND_GIVES_ROW_1_KEY_1: u32 = 13;
+
+// After some steps a transaction looks for a key, and finds it free, or a row that has it, or an open transaction.
+#[derive(Clone, Copy)]
+enum Looked<'a> {
+    Free(&'a [u32], usize, i64),
+    Held(&'a [u32], usize, i64, u32),
+    Open(&'a [u32], usize, i64, usize),
+}
+
+fn sought_after(
+    rt: &(impl Abort + AllocGlobal),
+    codes: &[u32],
+    by: usize,
+    key: i64,
+    open: usize,
+) -> Result<(Sought, Xact), Fail> {
+    let mut case = new_case(rt)?;
+    for code in codes {
+        assert!(rt; take_step(rt, &mut case, *code)?);
+    }
+    assert!(rt; by < 3);
+    assert!(rt; open < 3);
+    let key = key_of(rt, key)?;
+    let sought = case.index.seek(&key, case.all[by], &case.xacts);
+    Ok((sought, case.all[open]))
+}
+
+fn check_looked(rt: &(impl Abort + AllocGlobal), looked: Looked) -> Result<(), Fail> {
+    match looked {
+        Looked::Free(codes, by, key) => {
+            let found = sought_after(rt, codes, by, key, 0)?;
+            assert_eq!(rt; found.0, Sought::Free);
+        }
+        Looked::Held(codes, by, key, row) => {
+            let found = sought_after(rt, codes, by, key, 0)?;
+            assert_eq!(rt; found.0, Sought::Held { row });
+        }
+        Looked::Open(codes, by, key, open) => {
+            let found = sought_after(rt, codes, by, key, open)?;
+            assert_eq!(rt; found.0, Sought::Open { by: found.1 });
+        }
+    }
+    Ok(())
+}
+
+fn check_all(rt: &(impl Abort + AllocGlobal), all: &[Looked]) -> Result<(), Fail> {
+    for looked in all {
+        check_looked(rt, *looked)?;
+    }
+    Ok(())
+}
+
+// A version is in the way of the others while its remover is open, and of nobody once that has committed.
+#[test]
+fn open_remover(rt: HostRuntime) -> Result<(), Fail> {
+    check_all(
+        &rt,
+        &[
+            Looked::Held(&[], 0, 0, 0),
+            Looked::Open(&[REMOVES_ROW_0], 1, 0, 0),
+            Looked::Free(&[REMOVES_ROW_0], 0, 0),
+            Looked::Free(&[REMOVES_ROW_0, COMMITS], 1, 0),
+            Looked::Held(&[REMOVES_ROW_0, ABORTS], 1, 0, 0),
+            Looked::Open(&[GIVES_ROW_0_KEY_0], 1, 0, 0),
+            Looked::Held(&[GIVES_ROW_0_KEY_0], 0, 0, 0),
+        ],
+    )
+}
+
+// Row 0 is gone, and an open transaction gives its key to row 1; then it gives that row its old key again. The version with the
+// other key, which its maker has replaced, is in the way of the others still.
+#[test]
+fn open_maker(rt: HostRuntime) -> Result<(), Fail> {
+    let made = [REMOVES_ROW_0, COMMITS, SECOND_GIVES_ROW_1_KEY_0];
+    let replaced = [
+        REMOVES_ROW_0,
+        COMMITS,
+        SECOND_GIVES_ROW_1_KEY_0,
+        SECOND_GIVES_ROW_1_KEY_1,
+    ];
+    check_all(
+        &rt,
+        &[
+            Looked::Open(&made, 2, 0, 1),
+            Looked::Held(&made, 1, 0, 1),
+            Looked::Open(&made, 2, 1, 1),
+            Looked::Free(&made, 1, 1),
+            Looked::Open(&replaced, 2, 0, 1),
+            Looked::Free(&replaced, 1, 0),
+            Looked::Open(&replaced, 2, 1, 1),
+            Looked::Held(&replaced, 1, 1, 1),
+        ],
+    )
+}
+
 #[test]
 fn keys_with_nulls_and_texts(rt: HostRuntime) -> Result<(), Fail> {
     let mut case = new_case(&rt)?;

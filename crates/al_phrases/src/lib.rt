@@ -14,8 +14,6 @@ mod names;
 mod ranges;
 mod rows;
 mod tail;
-#[cfg(test)]
-mod tests;
 mod tokens;
 mod types;
 

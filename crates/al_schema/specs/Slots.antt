@@ -19,13 +19,6 @@ row_by [] stored = []
 row_by (slot ∷ slots) [] = if slot.dropped then row_by slots [] else slot.added ∷ row_by slots []
 row_by (slot ∷ slots) (value ∷ stored) = if slot.dropped then row_by slots stored else value ∷ row_by slots stored
 
--- the values of a row by slot; a dropped slot has its added value
-abbrev pub stored_by : List Slot → List Value → List Value
-stored_by [] row = []
-stored_by (slot ∷ slots) [] = slot.added ∷ stored_by slots []
-stored_by (slot ∷ slots) (value ∷ row) =
-    if slot.dropped then slot.added ∷ stored_by slots (value ∷ row) else value ∷ stored_by slots row
-
 -- whether a slot is a column of the name
 abbrev pub is_named : List ℕ → Slot → Bool
 is_named name slot = not slot.dropped && same_name slot.name name

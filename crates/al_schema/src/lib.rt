@@ -10,8 +10,6 @@ mod renaming;
 mod rows;
 mod shape;
 mod slot;
-#[cfg(test)]
-mod tests;
 
 pub use constraint::{Constraint, ConstraintList, Link, Rule};
 pub use laws::{added_values_stay, defaults_are_later, drops_lose_one, each_column_has_a_value};

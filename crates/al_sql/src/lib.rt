@@ -13,8 +13,6 @@ mod queries;
 mod scripts;
 mod slots;
 mod sorting;
-#[cfg(test)]
-mod tests;
 mod transactions;
 mod words;
 

@@ -11,8 +11,6 @@ mod rows;
 mod script;
 mod subcommands;
 mod tables;
-#[cfg(test)]
-mod tests;
 
 pub use alter::{Alter, Change, Rename, Sub};
 pub use column::{ColumnDefinition, Constraint, ConstraintList, Rule};
