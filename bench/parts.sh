@@ -12,7 +12,7 @@ runs=1
 command -v valgrind >/dev/null || { echo "no valgrind" >&2; exit 1; }
 
 # The calls of a run, few enough that no table doubles its room amid them.
-times=25
+times=10
 
 calls_of() {
   case $1 in

@@ -306,6 +306,11 @@ enum Looked<'a> {
     Open(&'a [u32], usize, i64, usize),
 }
 
+fn xact_at(rt: &impl Abort, case: &Case, by: usize) -> Xact {
+    assert!(rt; by < 3);
+    case.all[by]
+}
+
 fn sought_after(
     rt: &(impl Abort + AllocGlobal),
     codes: &[u32],
@@ -317,11 +322,10 @@ fn sought_after(
     for code in codes {
         assert!(rt; take_step(rt, &mut case, *code)?);
     }
-    assert!(rt; by < 3);
-    assert!(rt; open < 3);
+    let x = xact_at(rt, &case, by);
     let key = key_of(rt, key)?;
-    let sought = case.index.seek(&key, case.all[by], &case.xacts);
-    Ok((sought, case.all[open]))
+    let sought = case.index.seek(&key, x, &case.xacts);
+    Ok((sought, xact_at(rt, &case, open)))
 }
 
 fn check_looked(rt: &(impl Abort + AllocGlobal), looked: Looked) -> Result<(), Fail> {
