@@ -1,5 +1,8 @@
 -- The words of SQL, in small letters and in the alphabet's order.
-use Rattle.std.specs.Prelude.{ℕ, Bool, true, false, ◌||◌, if◌then◌else◌, List, [], ◌∷◌, codes, bytes_eq}
+use Rattle.std.specs.Prelude.{ℕ, Bool, true, false, ◌||◌, ◌&&◌, if◌then◌else◌, List, [], ◌∷◌, map, codes, bytes_eq}
+use Rattle.std.specs.Ordering.{is_lt, nat_cmp}
+use Rattle.std.specs.Cmp.Lexicographic.{slice_cmp}
+use denote.Ref.{Bor}
 use Rattle.al_phrases.specs.Kinds as k
 
 -- The words that the grammar names, each with its kind (SQL Key Words, appendix C). A reserved one can't be a name: that is
@@ -188,3 +191,25 @@ word_kind false word = kind_in words k.name word
 
 unfoldable pub is_left_out : List ℕ → Bool
 is_left_out word = is_in left_out word
+
+-- ---- tables in the code
+
+-- a word stands before another in the alphabet
+abbrev pub precedes : List ℕ → List ℕ → Bool
+precedes w v = is_lt (slice_cmp nat_cmp w v)
+
+abbrev pub precedes_first : List ℕ → List (List ℕ × ℕ) → Bool
+precedes_first w [] = true
+precedes_first w (row ∷ rows) = precedes w row.0
+
+-- the words of a table rise
+abbrev pub ascending : List (List ℕ × ℕ) → Bool
+ascending [] = true
+ascending (row ∷ rows) = precedes_first row.0 rows && ascending rows
+
+-- the rows of a table
+abbrev pub rows_of : List (Bor (List ℕ) × ℕ) → List (List ℕ × ℕ)
+rows_of table = map (λ row. (row.0.now, row.1)) table
+
+abbrev pub texts_of : List (Bor (List ℕ)) → List (List ℕ)
+texts_of table = map (λ text. text.now) table

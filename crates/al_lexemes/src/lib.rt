@@ -1,6 +1,8 @@
 //! Tokens of SQL classed as the grammar tells them apart, and what a text that isn't SQL is told.
 #![tactic(auto)]
 
-mod kept;
+mod classes;
+mod texts;
+mod words;
 
-pub use kept::Kept;
+pub use classes::{is_outside, lexemes, stand_in};
