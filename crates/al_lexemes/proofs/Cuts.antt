@@ -1,12 +1,11 @@
 -- Where a text may be cut round its tokens.
-use Rattle.std.proofs.Common.{◌≡◌, ℕ, suc, ◌+◌, ◌-◌, ◌<◌, ◌≤◌, Bool, true, false, List, [], ◌∷◌, length, get_or, refl, sym, ap, ◌∙◌, subst, arith}
-use Rattle.std.specs.Prelude.{IsUtf8, IsCharBoundary, ◌||◌, ◌==◌}
-use Rattle.std.specs.Char.{is_ascii_alphabetic, is_ascii_digit}
+use Rattle.std.proofs.Common.{◌≡◌, ℕ, ◌+◌, ◌-◌, ◌<◌, ◌≤◌, true, false, List, length, ap, ◌∙◌, subst, arith}
+use Rattle.std.specs.Prelude.{IsUtf8, IsCharBoundary}
 use Rattle.std.proofs.lemmas.Str.{IsCharBoundary-after_ascii, IsCharBoundary-before_ascii}
 use Rattle.std.proofs.lemmas.Bool.Decides.{nat_tests}
 use Rattle.al_tokens.specs.declared.kinds.TokenKind.TheVariants as kinds
 use Rattle.al_tokens.specs.declared.bytes.Class.TheVariants as classes
-use Rattle.al_tokens.specs.Bytes.{at, is_of, begins_word, Run, Closed, closes, doubled, other}
+use Rattle.al_tokens.specs.Bytes.{at, is_of, Closed, closes, doubled, other}
 use Rattle.al_tokens.specs.Tokens.{IsToken}
 
 small_by : (b : ℕ) → 128 ≤ b → is_of classes.Word b ≡ false

@@ -5,3 +5,6 @@ pub mod Quotes
 pub mod Cuts
 pub mod Numbers
 pub mod Walks
+pub mod Trials
+pub mod NameTexts
+pub mod FrontLaws

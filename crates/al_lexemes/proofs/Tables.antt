@@ -1,5 +1,5 @@
 -- Words in a table in the alphabet's order, which halves tell apart.
-use Rattle.std.proofs.Common.{◌≡◌, ℕ, suc, ◌+◌, ◌<◌, ◌≤◌, Bool, true, false, List, [], ◌∷◌, ◌++◌, length, map, take, drop, get_or, zero, ◌/◌, ◌-◌, refl, sym, ap, ◌∙◌, subst, arith}
+use Rattle.std.proofs.Common.{◌≡◌, ℕ, suc, ◌+◌, ◌<◌, ◌≤◌, Bool, true, false, List, [], ◌∷◌, ◌++◌, length, take, drop, get_or, zero, ◌/◌, ◌-◌, refl, sym, ap, ◌∙◌, subst, arith}
 use Rattle.std.specs.Prelude.{◌&&◌, ◌==◌, bytes_eq}
 use Rattle.std.proofs.lemmas.Bool.{eqb-false}
 use Rattle.std.proofs.Math.ListN.{length-take, length-drop}
@@ -47,10 +47,6 @@ lacks_all (row ∷ rows) other w h = rw (h.0) (lacks_all rows other w h.1)
 lacks_front : (xs ys : Rows) (other : ℕ) (w : List ℕ) → Lacks xs w → kind_in (xs ++ ys) other w ≡ kind_in ys other w
 lacks_front [] ys other w h = refl
 lacks_front (x ∷ xs) ys other w h = rw (h.0) (lacks_front xs ys other w h.1)
-
-
-
-
 
 lacks_back : (xs ys : Rows) (other : ℕ) (w : List ℕ) → Lacks ys w → kind_in (xs ++ ys) other w ≡ kind_in xs other w
 lacks_back [] ys other w h = lacks_all ys other w h

@@ -21,10 +21,15 @@ use Rattle.al_phrases.specs.Words.{kind_of}
 use Rattle.al_lexemes.specs.Classes.{lexemes_of, outside}
 use Rattle.al_lexemes.specs.Faults.{IsText, IsFault, IsStopped, IsEnded, IsLeftOut, Begins, end_place}
 use Rattle.al_lexemes.specs.Answer.{answer, answer_by, ended, fault_at, fault_by, fault_of, goes_on, trial}
-use Rattle.al_lexemes.proofs.Splits.{Parts, parts, get_mid, rest_length, place_length, lexemes_length, stood_in, tried}
+use Rattle.al_lexemes.proofs.Splits.{parts, get_mid, rest_length, place_length, lexemes_length, stood_in, tried}
 
 clash : (b : Bool) → b ≡ true → b ≡ false → ⊥
 clash b t f = absurd (cc (t, f))
+
+pub why_is : (A : Type 0) (r : Result A (Cant ℕ)) (want : Result A ℕ) (n : ℕ) → GivesUnlessNoMemory r want → r ≡ Err (cants.Why n) → want ≡ Err n
+why_is A (Ok v) want n gives e = absurd cc
+why_is A (Err (cants.Why m)) want n gives e = let same : m ≡ n = cc in gives ∙ ap Err same
+why_is A (Err cants.NoMemory) want n gives e = absurd cc
 
 -- ---- what is told of a token
 
@@ -91,7 +96,7 @@ module _ (A : Type 0) (s : Shape) (p : Rule Lexeme s A) (pl : Lawful kind_of p) 
   pub stopped_late : (ts : List Lexeme) (left : ℕ) → 0 < left → StopsAt p.Is ts left → Begins p.Is ts → ⊥
   stopped_late ts left some h b = no_more_from ts left h h.from refl (omega (arith, h.place, some)) b
 
-  positive : (n : ℕ) → (n == 0) ≡ false → 0 < n
+  pub positive : (n : ℕ) → (n == 0) ≡ false → 0 < n
   positive zero e = absurd cc
   positive (suc n) e = omega arith
 
@@ -171,12 +176,15 @@ module _ (A : Type 0) (s : Shape) (p : Rule Lexeme s A) (pl : Lawful kind_of p) 
   late_by : (text : List ℕ) (front : Front) (left : ℕ) (f : SqlFault) (b : Bool) → (left == 0) ≡ b → IsFront text front → StopsAt p.Is (lexemes_of text front.tokens) left
       → either_of b (faults.Syntax (end_place front.ending (length text))) (fault_at text front.tokens (length front.tokens - left) (stands text front.tokens (length front.tokens - left))) ≡ Err f
       → IsFault p text f
-  late_by text front left f true z is h e =
-      (front, is, inr (record {
-        begins = stopped_early (lexemes_of text front.tokens) left (eqb-true left 0 z) h;
-        early = λ v w k. text_goes_on Lexeme A p.Is (lexemes_of text front.tokens) left v h k;
-        told = cc;
-      }))
+  late_by text front left f true z is h e = (
+    front,
+    is,
+    inr (record {
+      begins = stopped_early (lexemes_of text front.tokens) left (eqb-true left 0 z) h;
+      early = λ v w k. text_goes_on Lexeme A p.Is (lexemes_of text front.tokens) left v h k;
+      told = cc;
+    }),
+  )
   late_by text front left f false z is h e =
       let same : fault_at text front.tokens (length front.tokens - left) (stands text front.tokens (length front.tokens - left)) ≡ f = cc in
       (front, is, inl (subst (λ (g : SqlFault). IsStopped p.Is text front.tokens g) same (stopped text front.tokens left (positive left z) h)))
@@ -184,12 +192,15 @@ module _ (A : Type 0) (s : Shape) (p : Rule Lexeme s A) (pl : Lawful kind_of p) 
   fault_found_by : (text : List ℕ) (front : Front) (r : Result A ℕ) (f : SqlFault) → IsFront text front → whole_of (p.reads (lexemes_of text front.tokens)) ≡ r → answer_by p text front r ≡ Err f → IsFault p text f
   fault_found_by text front (Ok w) f is e h =
       let x = ended_err A front.ending w (length text) f h in
-      let there = whole_found Lexeme A s kind_of p pl (lexemes_of text front.tokens) w e in
-      (front, is, inr (record {
-        begins = ([], w, subst (λ (l : List Lexeme). p.Is l w) (sym (append-nil (lexemes_of text front.tokens))) there);
-        early = λ v k _. x.0 k;
-        told = x.1;
-      }))
+      let there = whole_found Lexeme A s kind_of p pl (lexemes_of text front.tokens) w e in (
+        front,
+        is,
+        inr (record {
+          begins = ([], w, subst (λ (l : List Lexeme). p.Is l w) (sym (append-nil (lexemes_of text front.tokens))) there);
+          early = λ v k _. x.0 k;
+          told = x.1;
+        }),
+      )
   fault_found_by text front (Err left) f is e h = late_by text front left f (left == 0) refl is (whole_stops Lexeme A s kind_of p pl (lexemes_of text front.tokens) left e) h
 
   -- ---- what is so is answered
@@ -242,3 +253,19 @@ module _ (A : Type 0) (s : Shape) (p : Rule Lexeme s A) (pl : Lawful kind_of p) 
   pub fault_only : (text : List ℕ) (front : Front) (r : Result A (Cant SqlFault)) → ((g : Front) → IsFront text g → front ≡ g) → GivesUnlessNoMemory r (answer p text front)
       → (f : SqlFault) → IsFault p text f → GivesUnlessNoMemory r (Err f)
   fault_only text front r one gives f is = subst (λ (x : Result A SqlFault). GivesUnlessNoMemory r x) (only_fault text front f one is) gives
+
+  -- ---- from the two readings
+
+  -- a token that can't stand: what is read of the tokens up to it, stood in for, decides what is told
+  pub answer_stopped : (text : List ℕ) (front : Front) (ts tr : List Lexeme) (left : ℕ) (st : Bool) (f : SqlFault) → ts ≡ lexemes_of text front.tokens → whole_of (p.reads ts) ≡ Err left → (left == 0) ≡ false
+      → tr ≡ trial ts (length ts - left) → st ≡ goes_on (whole_of (p.reads tr)) → f ≡ fault_at text front.tokens (length front.tokens - left) st → answer p text front ≡ Err f
+  answer_stopped text front ts tr left st f all first some up second told_as =
+      let size : length ts ≡ length front.tokens = ap length all ∙ lexemes_length text front.tokens in
+      let place : length ts - left ≡ length front.tokens - left = ap (λ (n : ℕ). n - left) size in
+      let cut : tr ≡ trial (lexemes_of text front.tokens) (length front.tokens - left) = up ∙ ap (λ (l : List Lexeme). trial l (length ts - left)) all ∙ ap (λ (n : ℕ). trial (lexemes_of text front.tokens) n) place in
+      let stand : st ≡ stands text front.tokens (length front.tokens - left) = second ∙ ap (λ (l : List Lexeme). goes_on (whole_of (p.reads l))) cut in
+      let read_once : whole_of (p.reads (lexemes_of text front.tokens)) ≡ Err left = ap (λ (l : List Lexeme). whole_of (p.reads l)) (sym all) ∙ first in
+      ap (λ (r : Result A ℕ). answer_by p text front r) read_once
+      ∙ ap (λ (b : Bool). either_of b (faults.Syntax (end_place front.ending (length text))) (fault_at text front.tokens (length front.tokens - left) (stands text front.tokens (length front.tokens - left)))) some
+      ∙ ap (λ (b : Bool). Err (fault_at text front.tokens (length front.tokens - left) b)) (sym stand)
+      ∙ ap Err (sym told_as)

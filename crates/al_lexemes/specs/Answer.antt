@@ -1,5 +1,5 @@
 -- What is answered on a text, out of what a rule's reader makes of its tokens.
-use Rattle.std.specs.Prelude.{◌≡◌, ℕ, zero, suc, ◌-◌, Bool, true, false, ◌||◌, ◌==◌, if◌then◌else◌, List, [], ◌∷◌, length, take, drop, slice_get, Option, Some, None, Result, Ok, Err}
+use Rattle.std.specs.Prelude.{ℕ, zero, suc, ◌-◌, Bool, true, false, ◌||◌, ◌==◌, if◌then◌else◌, List, [], ◌∷◌, length, take, slice_get, Option, Some, None, Result, Ok, Err}
 use Rattle.al_grammar.specs.Rules.{Shape, Step, read, fault, Rule}
 use Rattle.al_grammar.specs.Whole.{whole_of}
 use Rattle.al_tokens.specs.declared.kinds.Token.{Token}

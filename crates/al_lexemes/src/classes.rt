@@ -5,6 +5,8 @@ ghost use Rattle.al_tokens.specs.declared.kinds.TokenKind.TheVariants as kinds;
 ghost use Rattle.al_tokens.specs.Tokens.{Spans, IsToken};
 ghost use Rattle.al_lexemes.specs.Classes.{bare, named, integer, lexeme_by, lexeme_of, lexemes_of, opens, is_paren_kind, sign_kind, outside, outside_by, is_long, is_wide, stand_in, stand_in_kind};
 
+use crate::texts::{number_of, quoted_of, word_of};
+use crate::words::{is_left_out, word_kind};
 use al_phrases::kinds::{
     BEGIN, CAST_SIGN, COMMA, DEEP_NOT, DEEP_PAREN, DEEP_SIGN, EQUAL, FOR, GREATER,
     GREATER_OR_EQUAL, INTEGER_TOKEN, JOINED, LATE_FOR, LEFT_PAREN, LENGTH_CALL, LESS,
@@ -14,8 +16,6 @@ use al_phrases::kinds::{
 use al_phrases::{Lexeme, LexemeList};
 use al_tokens::{Sign, Token, TokenKind};
 use al_values::{ListOf, NoMemory, Txt};
-use crate::texts::{number_of, quoted_of, word_of};
-use crate::words::{is_left_out, word_kind};
 use std::alloc::Global;
 
 fn sign_kind(sign: Sign) -> u8

@@ -1,17 +1,111 @@
 ghost use Rattle.std.specs.Prelude.{ℕ, true, ◌≡◌, List, map};
 ghost use Rattle.al_lexemes.specs.Words.{ascending, kind_in, is_in, word_kind, is_left_out, rows_of, texts_of};
 
-use al_phrases::kinds::{
-    ABORT, ABS_CALL, ACCESS, ADD, ALTER, AND, AS, ASC, BEGIN, BETWEEN, BIGINT, BOOL, BOOLEAN, BY,
-    CAST, CHARACTER, CHECK, COALESCE_CALL, COLUMN, COMMIT, COMMITTED, CONSTRAINT, COUNT,
-    COUNT_CALL, CREATE, DATA, DATE, DEADLOCK_TIMEOUT, DEFAULT, DELETE, DESC, DROP, END, EXCLUSIVE,
-    EXISTS, FALSE, FILLFACTOR, FOR, FOREIGN, FROM, GENERATE_SERIES, IF, IN, INHERIT, INHERITS,
-    INSERT, INT, INT2, INT4, INT8, INTEGER, INTO, IS, ISOLATION, KEY, LENGTH_CALL, LEVEL, LOCAL,
-    LOCK, LOCK_TIMEOUT, MAX, MAX_CALL, MIN, MIN_CALL, MODE, NAME, NO, NOT, NOWAIT, NULL, ONLY, OR,
-    ORDER, PRIMARY, READ, REFERENCES, RENAME, REPEATABLE, RESTRICT, ROLLBACK, ROW, SELECT, SESSION,
-    SET, SHARE, SMALLINT, START, STATEMENT_TIMEOUT, STATISTICS, TABLE, TEXT, TO, TRANSACTION, TRUE,
-    TYPE, UNIQUE, UPDATE, USING, VALID, VALIDATE, VALUES, VARCHAR, VARYING, WHERE, WORK,
-};
+use al_phrases::kinds::ABORT;
+use al_phrases::kinds::ABS_CALL;
+use al_phrases::kinds::ACCESS;
+use al_phrases::kinds::ADD;
+use al_phrases::kinds::ALTER;
+use al_phrases::kinds::AND;
+use al_phrases::kinds::AS;
+use al_phrases::kinds::ASC;
+use al_phrases::kinds::BEGIN;
+use al_phrases::kinds::BETWEEN;
+use al_phrases::kinds::BIGINT;
+use al_phrases::kinds::BOOL;
+use al_phrases::kinds::BOOLEAN;
+use al_phrases::kinds::BY;
+use al_phrases::kinds::CAST;
+use al_phrases::kinds::CHARACTER;
+use al_phrases::kinds::CHECK;
+use al_phrases::kinds::COALESCE_CALL;
+use al_phrases::kinds::COLUMN;
+use al_phrases::kinds::COMMIT;
+use al_phrases::kinds::COMMITTED;
+use al_phrases::kinds::CONSTRAINT;
+use al_phrases::kinds::COUNT;
+use al_phrases::kinds::COUNT_CALL;
+use al_phrases::kinds::CREATE;
+use al_phrases::kinds::DATA;
+use al_phrases::kinds::DATE;
+use al_phrases::kinds::DEADLOCK_TIMEOUT;
+use al_phrases::kinds::DEFAULT;
+use al_phrases::kinds::DELETE;
+use al_phrases::kinds::DESC;
+use al_phrases::kinds::DROP;
+use al_phrases::kinds::END;
+use al_phrases::kinds::EXCLUSIVE;
+use al_phrases::kinds::EXISTS;
+use al_phrases::kinds::FALSE;
+use al_phrases::kinds::FILLFACTOR;
+use al_phrases::kinds::FOR;
+use al_phrases::kinds::FOREIGN;
+use al_phrases::kinds::FROM;
+use al_phrases::kinds::GENERATE_SERIES;
+use al_phrases::kinds::IF;
+use al_phrases::kinds::IN;
+use al_phrases::kinds::INHERIT;
+use al_phrases::kinds::INHERITS;
+use al_phrases::kinds::INSERT;
+use al_phrases::kinds::INT;
+use al_phrases::kinds::INT2;
+use al_phrases::kinds::INT4;
+use al_phrases::kinds::INT8;
+use al_phrases::kinds::INTEGER;
+use al_phrases::kinds::INTO;
+use al_phrases::kinds::IS;
+use al_phrases::kinds::ISOLATION;
+use al_phrases::kinds::KEY;
+use al_phrases::kinds::LENGTH_CALL;
+use al_phrases::kinds::LEVEL;
+use al_phrases::kinds::LOCAL;
+use al_phrases::kinds::LOCK;
+use al_phrases::kinds::LOCK_TIMEOUT;
+use al_phrases::kinds::MAX;
+use al_phrases::kinds::MAX_CALL;
+use al_phrases::kinds::MIN;
+use al_phrases::kinds::MIN_CALL;
+use al_phrases::kinds::MODE;
+use al_phrases::kinds::NAME;
+use al_phrases::kinds::NO;
+use al_phrases::kinds::NOT;
+use al_phrases::kinds::NOWAIT;
+use al_phrases::kinds::NULL;
+use al_phrases::kinds::ONLY;
+use al_phrases::kinds::OR;
+use al_phrases::kinds::ORDER;
+use al_phrases::kinds::PRIMARY;
+use al_phrases::kinds::READ;
+use al_phrases::kinds::REFERENCES;
+use al_phrases::kinds::RENAME;
+use al_phrases::kinds::REPEATABLE;
+use al_phrases::kinds::RESTRICT;
+use al_phrases::kinds::ROLLBACK;
+use al_phrases::kinds::ROW;
+use al_phrases::kinds::SELECT;
+use al_phrases::kinds::SESSION;
+use al_phrases::kinds::SET;
+use al_phrases::kinds::SHARE;
+use al_phrases::kinds::SMALLINT;
+use al_phrases::kinds::START;
+use al_phrases::kinds::STATEMENT_TIMEOUT;
+use al_phrases::kinds::STATISTICS;
+use al_phrases::kinds::TABLE;
+use al_phrases::kinds::TEXT;
+use al_phrases::kinds::TO;
+use al_phrases::kinds::TRANSACTION;
+use al_phrases::kinds::TRUE;
+use al_phrases::kinds::TYPE;
+use al_phrases::kinds::UNIQUE;
+use al_phrases::kinds::UPDATE;
+use al_phrases::kinds::USING;
+use al_phrases::kinds::VALID;
+use al_phrases::kinds::VALIDATE;
+use al_phrases::kinds::VALUES;
+use al_phrases::kinds::VARCHAR;
+use al_phrases::kinds::VARYING;
+use al_phrases::kinds::WHERE;
+use al_phrases::kinds::WORK;
 use std::cmp::Ordering;
 
 // The words that the grammar names, in the alphabet's order.

@@ -1,4 +1,4 @@
-use Rattle.std.proofs.Common.{arith, ap, ◌∙◌, ◌≡◌, List, ℕ, length, get_or, ◌<◌, sym, subst}
+use Rattle.std.proofs.Common.{arith, ap, ◌∙◌, ◌≡◌, List, ℕ, length, get_or, ◌<◌, sym}
 use Rattle.std.proofs.lemmas.Str.{IsCharBoundary-after_ascii}
 use Rattle.al_lexemes.proofs.texts.past_second.Goals as goal
 

@@ -1,8 +1,8 @@
-use Rattle.std.proofs.Common.{◌≡◌, ◌<◌, ◌≤◌, ◌+◌, ◌++◌, ◌-◌, ℕ, List, length, take, drop, true, sym, ap, ◌∙◌, append_assoc, subst, arith}
-use Rattle.std.specs.Prelude.{string_bytes, IsCharBoundary}
+use Rattle.std.proofs.Common.{◌≡◌, ◌+◌, ◌++◌, ◌-◌, ℕ, List, take, drop, true, sym, ap, ◌∙◌, append_assoc, arith}
+use Rattle.std.specs.Prelude.{string_bytes}
 use Rattle.std.proofs.lemmas.Str.{IsCharBoundary-after_ascii}
 use Rattle.al_lexemes.specs.Classes.{undoubled, undoubled_from}
-use Rattle.al_lexemes.proofs.Quotes.{FirstQuote, quote_found, quote_missing, first_stays}
+use Rattle.al_lexemes.proofs.Quotes.{quote_found, quote_missing, first_stays}
 use Rattle.al_lexemes.proofs.texts.undoubled.Goals as goal
 
 pub range-requires-clause-end_boundary : goal.range-requires-clause-end_boundary

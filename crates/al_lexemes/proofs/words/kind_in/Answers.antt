@@ -1,4 +1,4 @@
-use Rattle.std.proofs.Common.{◌≡◌, ◌<◌, ◌≤◌, ◌/◌, ◌+◌, ℕ, length, take, drop, ◌-◌, true, subst, sym, ◌∙◌, arith}
+use Rattle.std.proofs.Common.{◌≡◌, ◌≤◌, ◌/◌, ◌+◌, length, take, drop, ◌-◌, true, subst, sym, ◌∙◌, arith}
 use Rattle.al_lexemes.specs.Words.{ascending, kind_in, rows_of}
 use Rattle.al_lexemes.proofs.Tables.{below_place, above_place, half_below, fewer_front, fewer_back, rest_all}
 use Rattle.al_lexemes.proofs.words.kind_in.Goals as goal
