@@ -4,6 +4,8 @@
 mod answers;
 mod classes;
 mod names;
+#[cfg(test)]
+mod tests;
 mod texts;
 mod words;
 
