@@ -5,3 +5,4 @@ pub mod TableLaws
 pub mod RowLaws
 pub mod QueryLaws
 pub mod ScriptLaws
+pub mod ScriptTexts

@@ -13,7 +13,9 @@ mod queries;
 mod scripts;
 mod slots;
 mod sorting;
+mod texts;
 mod transactions;
 mod words;
 
 pub use scripts::script;
+pub use texts::read_script;

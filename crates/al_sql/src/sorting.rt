@@ -1,13 +1,26 @@
-ghost use Rattle.std.specs.Prelude.{ℕ, true, false, ◌≡◌, ◌<◌, ◌≤◌, List, [], ◌∷◌, length, Some, None, IfOk};
+ghost use Rattle.std.specs.Prelude.{ℕ, true, false, ◌≡◌, ◌<◌, ◌≤◌, List, [], ◌∷◌, length, Some, None, ◌==◌, if◌then◌else◌, IfOk};
+ghost use Rattle.al_grammar.specs.Kinds.{among};
 ghost use Rattle.al_grammar.specs.Rules.{read};
+ghost use Rattle.al_phrases.specs.Kinds.{desc_word};
 ghost use Rattle.al_grammar.specs.Gives.{GivesStep};
-ghost use Rattle.al_sql.specs.Queries.{direction, key, next_key, keys_from, key_list, order};
+ghost use Rattle.al_sql.specs.Queries.{directions, direction, key, next_key, keys_from, key_list, order};
 
 use al_phrases::kinds::{ASC, BY, COMMA, DESC, ORDER};
 use al_phrases::{Lexeme, name, starts, word};
 use al_statements::{SortKey, SortKeyList};
 use al_values::{Cant, ListOf};
 use std::alloc::Global;
+
+// Whether the word is DESC, where it is ASC or DESC.
+fn descends(word: u8) -> Option<bool>
+    ensures { result ≡ (if among word directions then Some (word == desc_word) else None) }
+{
+    match word {
+        ASC => Some(false),
+        DESC => Some(true),
+        _ => None,
+    }
+}
 
 // Whether DESC stands there.
 #[tactic(auto, unfolding(crate::specs::Queries::direction))]
@@ -16,10 +29,9 @@ fn direction(tokens: &[Lexeme]) -> (bool, &[Lexeme])
     ensures shorter { length result.1.now ≤ length tokens.now }
 {
     match tokens {
-        [token, rest @ ..] => match token.kind {
-            ASC => (false, rest),
-            DESC => (true, rest),
-            _ => (false, tokens),
+        [token, rest @ ..] => match descends(token.kind) {
+            None => (false, tokens),
+            Some(descending) => (descending, rest),
         },
         [] => (false, tokens),
     }
