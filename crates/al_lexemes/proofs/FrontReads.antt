@@ -1,5 +1,5 @@
 -- What is answered in front of tokens, from the readings.
-use Rattle.std.proofs.Common.{◌≡◌, ℕ, ◌+◌, ◌-◌, ◌<◌, ◌≤◌, Bool, true, false, ◌==◌, List, [], ◌∷◌, length, take, Result, Ok, Err, refl, sym, ap, ◌∙◌, arith}
+use Rattle.std.proofs.Common.{◌≡◌, ℕ, ◌-◌, Bool, true, false, ◌==◌, List, length, take, Result, Ok, Err, refl, sym, ap, ◌∙◌, arith}
 use Rattle.al_grammar.specs.Rules.{Shape, Step, read, fault, Rule}
 use Rattle.al_grammar.specs.Whole.{whole_of}
 use Rattle.al_tokens.specs.declared.kinds.Token.{Token}

@@ -1,8 +1,7 @@
-use Rattle.std.proofs.Common.{rules, ◌≡◌, ◌-◌, ℕ, List, true, false, take, length, Ok, Err, ap, sym, ◌∙◌}
+use Rattle.std.proofs.Common.{rules, ◌≡◌, ◌-◌, List, true, false, take, length, Ok, Err, ap, sym, ◌∙◌}
 use Rattle.std.specs.Prelude.{◌==◌}
 use Rattle.al_grammar.specs.Whole.{whole_of}
 use Rattle.al_phrases.specs.Words.{name_list, comma_shape, name_shape}
-use Rattle.al_statements.specs.declared.fault.SqlFault.TheVariants as faults
 use Rattle.al_phrases.specs.declared.lexeme.Lexeme.{Lexeme}
 use Rattle.al_lexemes.specs.Classes.{lexemes_of}
 use Rattle.al_lexemes.specs.Answer.{trial, goes_on, fault_at, front_of}

@@ -1,4 +1,4 @@
-use Rattle.std.proofs.Common.{rules, ◌≡◌, ◌+◌, ◌<◌, ◌≤◌, ℕ, List, length, drop, Ok, Err, IfOk, arith}
+use Rattle.std.proofs.Common.{rules, ◌≡◌, ℕ, List, drop, Ok, Err, arith}
 use Rattle.al_values.specs.Gives.{GivesUnlessNoMemory}
 use Rattle.al_phrases.specs.Words.{name_list, comma_shape, name_shape}
 use Rattle.al_phrases.proofs.WordLaws.{lawful_name_list}
