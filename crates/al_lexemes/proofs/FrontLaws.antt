@@ -1,7 +1,6 @@
 -- What is answered on tokens in front of others is what stands there by the rule, both ways.
-use Rattle.std.proofs.Common.{◌≡◌, ℕ, zero, suc, ◌+◌, ◌-◌, ◌<◌, ◌≤◌, ◌⊎◌, inl, inr, Bool, true, false, ◌==◌, List, [], ◌∷◌, ◌++◌, length, take, drop, length-append, append-nil, append_assoc, Result, Ok, Err, IfOk, refl, sym, ap, ◌∙◌, subst, arith}
-use Rattle.std.specs.Prelude.{if◌then◌else◌}
-use Rattle.std.proofs.lemmas.Bool.{eqb-true, ne_eqb}
+use Rattle.std.proofs.Common.{◌≡◌, ℕ, zero, suc, ◌+◌, ◌-◌, ◌<◌, ◌≤◌, ◌⊎◌, inl, inr, Bool, true, false, ◌==◌, List, [], ◌∷◌, ◌++◌, length, take, drop, length-append, append-nil, Result, Ok, Err, IfOk, refl, sym, ap, ◌∙◌, subst, arith}
+use Rattle.std.proofs.lemmas.Bool.{eqb-true}
 use Rattle.std.proofs.Math.ListN.{length-drop}
 use Rattle.std.proofs.lemmas.List.{drop-drop, take_all}
 use Rattle.al_values.specs.declared.cant.Cant.{Cant}
@@ -287,3 +286,41 @@ module _ (A : Type 0) (s : Shape) (p : Rule Lexeme s A) (pl : Lawful kind_of p) 
 
     pub front_fault_only : (r : Result (A × ℕ) (Cant SqlFault)) → GivesUnlessNoMemory r (front_answer p text ts) → (f : SqlFault) → IsFrontFault p.Is text tokens from f → GivesUnlessNoMemory r (Err f)
     front_fault_only r gives f h = subst (λ (x : Result (A × ℕ) SqlFault). GivesUnlessNoMemory r x) (front_only_fault f h) gives
+
+    -- ---- the same, with the number of the first token behind the text
+
+    abbrev placed : Result (A × ℕ) (Cant SqlFault) → Result (A × ℕ) (Cant SqlFault)
+    placed (Ok x) = Ok (x.0, from + x.1)
+    placed (Err e) = Err e
+
+    pub placed_value : (r : Result (A × ℕ) (Cant SqlFault)) → GivesUnlessNoMemory r (front_answer p text ts) → IfOk (placed r) (λ x. IsFrontText p.Is text tokens from x.0 x.1)
+    placed_value (Ok x) gives = front_value x.0 x.1 gives
+    placed_value (Err e) gives = tt
+
+    one_next : (v w : A) (n next : ℕ) → IsFrontText p.Is text tokens from v (from + n) → IsFrontText p.Is text tokens from w next → made w next ≡ made v (from + n)
+    one_next v w n next k h =
+        let one = one_front lex (lexemes_of text (drop (from + n) tokens)) (lexemes_of text (drop next tokens)) v w k.front h.front in
+        let a = lexemes_length text (drop (from + n) tokens) ∙ length-drop (from + n) tokens in
+        let b = lexemes_length text (drop next tokens) ∙ length-drop next tokens in
+        let place : next ≡ from + n = omega (arith, one.0, a, b, h.within, k.within) in
+        ap (λ (u : A). made u next) (sym one.1) ∙ ap (λ (m : ℕ). made v m) place
+
+    pub placed_only : (r : Result (A × ℕ) (Cant SqlFault)) → GivesUnlessNoMemory r (front_answer p text ts) → (v : A) (next : ℕ) → IsFrontText p.Is text tokens from v next → GivesUnlessNoMemory (placed r) (made v next)
+    placed_only (Ok x) gives v next h = one_next x.0 v x.1 next (front_value x.0 x.1 gives) h
+    placed_only (Err (cants.Why f)) gives v next h = absurd ((front_fault f gives).none v next h)
+    placed_only (Err cants.NoMemory) gives v next h = tt
+
+    pub placed_fault : (r : Result (A × ℕ) (Cant SqlFault)) → GivesUnlessNoMemory r (front_answer p text ts) → IfWhy (placed r) (λ f. IsFrontFault p.Is text tokens from f)
+    placed_fault (Ok x) gives = tt
+    placed_fault (Err (cants.Why f)) gives = front_fault f gives
+    placed_fault (Err cants.NoMemory) gives = tt
+
+    pub placed_only_fault : (r : Result (A × ℕ) (Cant SqlFault)) → GivesUnlessNoMemory r (front_answer p text ts) → (f : SqlFault) → IsFrontFault p.Is text tokens from f → GivesUnlessNoMemory (placed r) (Err f)
+    placed_only_fault (Ok x) gives f h = absurd (h.none x.0 (from + x.1) (front_value x.0 x.1 gives))
+    placed_only_fault (Err (cants.Why g)) gives f h = ap Err (sym (one_fault g f (front_fault g gives) h))
+    placed_only_fault (Err cants.NoMemory) gives f h = tt
+
+    -- no more tokens than there are
+    pub count_within : (r : Result (A × ℕ) (Cant SqlFault)) → GivesUnlessNoMemory r (front_answer p text ts) → IfOk r (λ x. from + x.1 ≤ length tokens)
+    count_within (Ok x) gives = (front_value x.0 x.1 gives).within
+    count_within (Err e) gives = tt

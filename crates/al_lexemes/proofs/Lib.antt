@@ -8,3 +8,5 @@ pub mod Walks
 pub mod Trials
 pub mod NameTexts
 pub mod FrontLaws
+pub mod FrontReads
+mod Vectors

@@ -26,6 +26,11 @@ use Rattle.al_lexemes.proofs.Splits.{parts, get_mid, rest_length, place_length, 
 clash : (b : Bool) → b ≡ true → b ≡ false → ⊥
 clash b t f = absurd (cc (t, f))
 
+pub ok_is : (A : Type 0) (r : Result A (Cant ℕ)) (want : Result A ℕ) (v : A) → GivesUnlessNoMemory r want → r ≡ Ok v → want ≡ Ok v
+ok_is A (Ok w) want v gives e = let same : w ≡ v = cc in gives ∙ ap Ok same
+ok_is A (Err (cants.Why m)) want v gives e = absurd cc
+ok_is A (Err cants.NoMemory) want v gives e = absurd cc
+
 pub why_is : (A : Type 0) (r : Result A (Cant ℕ)) (want : Result A ℕ) (n : ℕ) → GivesUnlessNoMemory r want → r ≡ Err (cants.Why n) → want ≡ Err n
 why_is A (Ok v) want n gives e = absurd cc
 why_is A (Err (cants.Why m)) want n gives e = let same : m ≡ n = cc in gives ∙ ap Err same

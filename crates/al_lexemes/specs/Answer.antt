@@ -51,6 +51,11 @@ answer_by p text front (Err left) =
 abbrev pub answer : {A : Type 0} {s : Shape} → Rule Lexeme s A → List ℕ → Front → Result A SqlFault
 answer p text front = answer_by p text front (whole_of (p.reads (lexemes_of text front.tokens)))
 
+-- a reader's answer in front of tokens, with how many stand behind the text
+abbrev pub front_of : {T A : Type 0} → Step T A → Result (A × ℕ) ℕ
+front_of (read v rest) = Ok (v, length rest)
+front_of (fault left) = Err left
+
 -- what is answered of a token that can't stand behind others: these alone may be a text
 abbrev pub front_before : {A : Type 0} {s : Shape} → Rule Lexeme s A → List ℕ → List Token → ℕ → Result A ℕ → Result (A × ℕ) SqlFault
 front_before p text ts place (Ok v) = Ok (v, place)

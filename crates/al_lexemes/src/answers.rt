@@ -1,4 +1,4 @@
-ghost use Rattle.std.specs.Prelude.{ℕ, ◌≡◌, ◌-◌, ◌<◌, ◌^◌, length, slice_get, Result, IfOk};
+ghost use Rattle.std.specs.Prelude.{ℕ, ◌≡◌, ◌-◌, ◌<◌, ◌≤◌, ◌^◌, length, take, drop, slice_get, Result, IfOk};
 ghost use Rattle.al_values.specs.Gives.{GivesUnlessNoMemory};
 ghost use Rattle.al_grammar.specs.Gives.{GivesStep};
 ghost use Rattle.al_grammar.specs.Rules.{Step};
@@ -6,12 +6,12 @@ ghost use Rattle.al_grammar.specs.Whole.{whole_of};
 ghost use Rattle.al_tokens.specs.Tokens.{Spans};
 ghost use Rattle.al_statements.specs.declared.fault.SqlFault.TheVariants as faults;
 ghost use Rattle.al_lexemes.specs.Faults.{end_place};
-ghost use Rattle.al_lexemes.specs.Answer.{ended, fault_at, fault_of, goes_on, trial};
+ghost use Rattle.al_lexemes.specs.Answer.{ended, fault_at, fault_of, front_of, goes_on, trial};
 
 use crate::classes::{is_outside, stand_in};
 use al_phrases::{Lexeme, LexemeList};
 use al_statements::SqlFault;
-use al_tokens::{Ending, Token};
+use al_tokens::{Ending, Token, TokenList};
 use al_values::{Cant, ListOf, NoMemory, Txt};
 use std::alloc::Global;
 
@@ -31,6 +31,17 @@ pub fn whole<T: Drop>(read: Result<(T, &[Lexeme]), Cant<usize>>) -> Result<T, Ca
     }
 }
 
+/// What a reader answered, where tokens may stand behind: the value and how many stand behind it; or how many tokens are
+/// left from the first one on that can't stand.
+pub fn front<T: Drop>(read: Result<(T, &[Lexeme]), Cant<usize>>) -> Result<(T, usize), Cant<usize>>
+    ensures { (step : Step Lexeme T) → GivesStep (λ x. x.0) (λ x. x.1.now) read.entry step → GivesUnlessNoMemory result (front_of step) }
+{
+    match read {
+        Ok((value, rest)) => Ok((value, rest.len())),
+        Err(fault) => Err(fault),
+    }
+}
+
 /// Whether what was read of a whole text says that its tokens begin some text.
 pub fn goes_on<T: Drop>(read: Result<T, Cant<usize>>) -> Result<bool, NoMemory>
     ensures { (step : Result T ℕ) → GivesUnlessNoMemory read step → IfOk result (λ it. it ≡ goes_on step) }
@@ -40,6 +51,13 @@ pub fn goes_on<T: Drop>(read: Result<T, Cant<usize>>) -> Result<bool, NoMemory>
         Err(Cant::Why(left)) => Ok(left == 0),
         Err(Cant::NoMemory) => Err(NoMemory),
     }
+}
+
+/// The tokens before the one from which on so many are left.
+pub fn tokens_before(lexemes: &[Lexeme], left: usize) -> &[Lexeme]
+    ensures { result.now ≡ take (length lexemes.now - left) lexemes.now }
+{
+    &lexemes[..lexemes.len().saturating_sub(left)]
 }
 
 /// The tokens up to the one from which on so many are left, which is stood in for.
@@ -70,6 +88,15 @@ fn fault_of(is_left_out: bool, at: u32) -> SqlFault
         return SqlFault::NotInProfile { at };
     }
     SqlFault::Syntax { at }
+}
+
+/// The tokens from one on.
+#[tactic(auto, using(crate::proofs::Walks::rest_of))]
+pub fn tokens_from(tokens: &TokenList, from: u32) -> &[Token]
+    requires { from ≤ length tokens.now }
+    ensures { result.now ≡ drop from tokens.now }
+{
+    &tokens.as_slice()[from as usize..]
 }
 
 fn token_at(tokens: &[Token], place: usize) -> Option<Token>

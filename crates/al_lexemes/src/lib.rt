@@ -3,12 +3,14 @@
 
 mod answers;
 mod classes;
+#[cfg(test)]
 mod names;
 #[cfg(test)]
 mod tests;
 mod texts;
 mod words;
 
-pub use answers::{end_fault, ended, fault_at, goes_on, trial, whole};
+pub use answers::{
+    end_fault, ended, fault_at, front, goes_on, tokens_before, tokens_from, trial, whole,
+};
 pub use classes::{is_outside, lexemes, stand_in};
-pub use names::read_names;

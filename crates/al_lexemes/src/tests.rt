@@ -1,4 +1,5 @@
-use crate::{lexemes, read_names};
+use crate::lexemes;
+use crate::names::{read_front_names, read_names};
 use al_statements::SqlFault;
 use al_tokens::front_tokens;
 use al_values::{Cant, NoMemory, Txt};
@@ -111,6 +112,39 @@ fn faults(rt: HostRuntime) -> Result<(), Fail> {
     ];
     for (text, wanted) in rows {
         let found = fault_of(rt.alloc(), text)?;
+        assert_eq!(rt; found, wanted, "{text:?}");
+    }
+    Ok(())
+}
+
+// The first token behind the names that stand from a token on.
+fn next_of(alloc: Global, text: &str, from: u32) -> Result<Result<u32, SqlFault>, NoMemory> {
+    let text = Txt::new(alloc, text)?;
+    let front = front_tokens(alloc, &text)?;
+    if from as usize > front.tokens.len() {
+        return Ok(Ok(0));
+    }
+    match read_front_names(alloc, &front.tokens, &text, from) {
+        Ok((_, next)) => Ok(Ok(next)),
+        Err(Cant::Why(fault)) => Ok(Err(fault)),
+        Err(Cant::NoMemory) => Err(NoMemory),
+    }
+}
+
+#[test]
+fn fronts(rt: HostRuntime) -> Result<(), Fail> {
+    let rows = [
+        ("x a, b ; c", 1, Ok(4)),
+        ("x a case", 1, Ok(2)),
+        ("a, b", 0, Ok(3)),
+        ("x a, ;", 1, Err(SqlFault::Syntax { at: 5 })),
+        ("x a,", 1, Err(SqlFault::Syntax { at: 4 })),
+        ("x 1.5", 1, Err(SqlFault::NotInProfile { at: 2 })),
+        ("x -- y", 1, Err(SqlFault::Syntax { at: 6 })),
+        ("x a, select", 1, Err(SqlFault::Syntax { at: 5 })),
+    ];
+    for (text, from, wanted) in rows {
+        let found = next_of(rt.alloc(), text, from)?;
         assert_eq!(rt; found, wanted, "{text:?}");
     }
     Ok(())
