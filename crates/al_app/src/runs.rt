@@ -133,7 +133,7 @@ fn run_whole(alloc: Global, engine: &mut Engine, session: u32, block: u32) -> Re
 {
     let outcome = run_block(alloc, engine, session, block)?;
     let cancelled = cancel_if_busy(alloc, engine, session)?;
-    Ok(outcome.is_refused() || cancelled)
+    Ok(outcome.is_refused() | cancelled)
 }
 
 fn is_setup(part: Part) -> bool
