@@ -92,7 +92,7 @@ struct Acted {
     other: Xact,
 }
 
-fn act(alloc: Global, tables: &mut Catalogue, x: Xact, act: Act) -> Result<(), NoMemory> {
+fn perform(alloc: Global, tables: &mut Catalogue, x: Xact, act: Act) -> Result<(), NoMemory> {
     match act {
         Act::Makes => put(alloc, tables, x, 1, entry(alloc, "t", 9)?),
         Act::Drops => remove(alloc, tables, x, 1),
@@ -113,13 +113,13 @@ fn begun(alloc: Global, x: Xact, act: Act) -> Result<Catalogue, NoMemory> {
     Ok(tables)
 }
 
-fn acted(alloc: Global, done: Act, fate: Fate) -> Result<Acted, NoMemory> {
+fn tables_after(alloc: Global, done: Act, fate: Fate) -> Result<Acted, NoMemory> {
     let mut xacts = Xacts::new(alloc, 1)?;
     let first = start(alloc, &mut xacts)?;
     let by = start(alloc, &mut xacts)?;
     let other = start(alloc, &mut xacts)?;
     let mut tables = begun(alloc, first, done)?;
-    act(alloc, &mut tables, by, done)?;
+    perform(alloc, &mut tables, by, done)?;
     if fate != Fate::Open {
         tables.finish(by, fate);
     }
@@ -136,27 +136,27 @@ fn claimed(alloc: Global, tables: &Catalogue, x: Xact, word: Word) -> Result<Cla
 fn check_claim(rt: &impl Abort, alloc: Global, claim: Claim) -> Result<(), Fail> {
     match claim {
         Claim::Free(done, fate, word) => {
-            let after = acted(alloc, done, fate)?;
+            let after = tables_after(alloc, done, fate)?;
             let found = claimed(alloc, &after.tables, after.other, word)?;
             assert_eq!(rt; found, Claimed::Free);
         }
         Claim::Taken(done, fate, word) => {
-            let after = acted(alloc, done, fate)?;
+            let after = tables_after(alloc, done, fate)?;
             let found = claimed(alloc, &after.tables, after.other, word)?;
             assert_eq!(rt; found, Claimed::Taken { table: 1 });
         }
         Claim::Open(done, fate, word) => {
-            let after = acted(alloc, done, fate)?;
+            let after = tables_after(alloc, done, fate)?;
             let found = claimed(alloc, &after.tables, after.other, word)?;
             assert_eq!(rt; found, Claimed::Open { by: after.by });
         }
         Claim::OwnFree(done, fate, word) => {
-            let after = acted(alloc, done, fate)?;
+            let after = tables_after(alloc, done, fate)?;
             let found = claimed(alloc, &after.tables, after.by, word)?;
             assert_eq!(rt; found, Claimed::Free);
         }
         Claim::OwnTaken(done, fate, word) => {
-            let after = acted(alloc, done, fate)?;
+            let after = tables_after(alloc, done, fate)?;
             let found = claimed(alloc, &after.tables, after.by, word)?;
             assert_eq!(rt; found, Claimed::Taken { table: 1 });
         }
