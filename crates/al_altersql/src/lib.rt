@@ -11,7 +11,9 @@ mod statement;
 mod storage;
 mod subcommands;
 mod targets;
+mod texts;
 
 pub use numbers::sint;
 pub use statement::{LEVELS, alter};
 pub use targets::target;
+pub use texts::read_alter;

@@ -1,5 +1,5 @@
 -- SELECT is read lawfully.
-use Rattle.std.specs.Prelude.{◌==◌}
+use Rattle.std.specs.Prelude.{◌||◌, ◌==◌}
 use Rattle.std.proofs.Common.{◌≡◌, ℕ, Bool, true, false, List, [], ◌∷◌, ◌++◌, None, refl}
 use Rattle.al_grammar.specs.Kinds.{starts}
 use Rattle.al_grammar.specs.Rules.{read, fault, leaf_shape, optional}
@@ -16,6 +16,7 @@ use Rattle.std.proofs.Common.{subst, sym, ◌∙◌, append-nil}
 use Rattle.al_values.specs.declared.scalar.Value.TheVariants as values
 use Rattle.al_expr.specs.declared.tree.Expr.TheVariants as e
 use Rattle.al_modes.specs.declared.row_mode.RowMode.TheVariants as row_modes
+use Rattle.al_statements.specs.declared.tables.Target.{Target}
 use Rattle.al_statements.specs.declared.query.Output.{Output}
 use Rattle.al_statements.specs.declared.query.Aggregate.{Aggregate}
 use Rattle.al_statements.specs.declared.query.SortKey.{SortKey}
@@ -66,7 +67,7 @@ outputs_stop depth = many_stop Lexeme Output (comma_next q.output_shape) kind_of
 
 lawful_count_word : Lawful kind_of q.count_word
 unfolding q.count_word
-lawful_count_word = lawful_each ℕ (k.count_call ∷ []) (λ (x : Lexeme). x.place) k.count_call refl
+lawful_count_word = lawful_each ℕ q.counts (λ (x : Lexeme). x.place) k.count_call refl
 
 lawful_count : Lawful kind_of q.count
 unfolding q.count
@@ -76,7 +77,7 @@ lawful_count =
 
 lawful_extreme_word : Lawful kind_of q.extreme_word
 unfolding q.extreme_word
-lawful_extreme_word = lawful_each _ q.extremes (λ (x : Lexeme). (x.place, x.kind == k.max_call)) k.min_call refl
+lawful_extreme_word = lawful_each _ q.extremes (λ (x : Lexeme). (x.place, x.kind == k.max_word || x.kind == k.max_call)) k.min_call refl
 
 lawful_extreme : (depth : ℕ) → Lawful kind_of (q.extreme depth)
 unfolding q.extreme
@@ -216,13 +217,34 @@ null_is depth =
     let t = (lawful_each_row depth).takes (null ∷ []) [] null_row (null_read depth) in
     subst (λ (l : List Lexeme). (q.each_row depth).Is l null_row) (sym (t.split ∙ append-nil t.used)) t.is
 
-lawful_other_row : (depth : ℕ) → Lawful kind_of (barring q.aggregate_words q.each_row_shape (q.each_row depth))
-lawful_other_row depth = lawful_barring Query q.rows_shape q.each_row_shape (q.each_row depth) (lawful_each_row depth) q.aggregate_words refl (null ∷ []) null_row (null_is depth) refl refl refl
+lawful_other_row : (depth : ℕ) → Lawful kind_of (barring q.aggregate_calls q.each_row_shape (q.each_row depth))
+lawful_other_row depth = lawful_barring Query q.rows_shape q.each_row_shape (q.each_row depth) (lawful_each_row depth) q.aggregate_calls refl (null ∷ []) null_row (null_is depth) refl refl refl
+
+-- `SELECT count(*) FROM` a table, whose list begins with an aggregate's call
+abbrev called : List Lexeme
+called = token k.count_call ∷ token k.left_paren ∷ token k.star ∷ token k.right_paren ∷ token k.from_word ∷ token k.name ∷ []
+
+abbrev counted : Query
+counted =
+    let table : Target = record { only = false; name = [] } in
+    q.with_rest (lists.Aggregates (q.aggregate_of (0, functions.Count) None ∷ [])) (q.rest_of table (None, ([], None)))
+
+called_read : (depth : ℕ) → (q.all_rows depth).reads called ≡ read counted []
+unfolding q.all_rows q.aggregate_list q.aggregate q.function q.count q.count_word q.alias q.from q.sorted q.order q.row_lock condition target name
+called_read depth = refl
+
+called_is : (depth : ℕ) → (q.all_rows depth).Is called counted
+called_is depth =
+    let t = (lawful_all_rows depth).takes called [] counted (called_read depth) in
+    subst (λ (l : List Lexeme). (q.all_rows depth).Is l counted) (sym (t.split ∙ append-nil t.used)) t.is
+
+lawful_called_rows : (depth : ℕ) → Lawful kind_of (barring q.aggregate_names q.called_rows_shape (q.all_rows depth))
+lawful_called_rows depth = lawful_barring Query q.all_rows_shape q.called_rows_shape (q.all_rows depth) (lawful_all_rows depth) q.aggregate_names refl called counted (called_is depth) refl refl refl
 
 lawful_selected : (depth : ℕ) → Lawful kind_of (q.selected depth)
 unfolding q.selected
 lawful_selected depth =
-    let one = lawful_or _ _ _ _ kind_of (q.all_rows depth) _ (lawful_all_rows depth) (lawful_other_row depth) refl refl refl in
+    let one = lawful_or _ _ _ _ kind_of _ _ (lawful_called_rows depth) (lawful_other_row depth) refl refl refl in
     lawful_widen _ _ _ q.selected_shape kind_of _ (lawful_or _ _ _ _ kind_of (q.all_columns depth) _ (lawful_all_columns depth) one refl refl refl) (λ h. h) refl refl
 
 pub lawful_select : (depth : ℕ) → Lawful kind_of (q.select depth)

@@ -1,5 +1,5 @@
 -- SELECT (the manual, SELECT), over tokens. Its list decides by its first token what may follow it.
-use Rattle.std.specs.Prelude.{ℕ, Bool, true, false, ◌==◌, List, [], ◌∷◌, ◌++◌, Option, Some, None}
+use Rattle.std.specs.Prelude.{ℕ, Bool, true, false, ◌||◌, ◌==◌, List, [], ◌∷◌, ◌++◌, Option, Some, None}
 use Rattle.al_grammar.specs.Rules.{Shape, Step, Rule, leaf, leaf_shape, pair, both, optional, at_most_once, mapped, or, either, widen}
 use Rattle.al_grammar.specs.Gives.{many_from}
 use Rattle.al_modes.specs.declared.row_mode.RowMode.{RowMode}
@@ -51,19 +51,22 @@ next_output depth = next_of (output depth)
 unfoldable pub outputs_from : ℕ → List Output → List Lexeme → Step Lexeme (List Output)
 outputs_from depth so_far ts = many_from kind_of (next_output depth) so_far ts
 
--- count "(" "*" ")", with the word's place: an aggregate's word stands directly before its parenthesis
-unfoldable pub count_word : Rule Lexeme (one_of k.count_call) ℕ
-count_word = leaf kind_of (k.count_call ∷ []) (λ t. Some t.place)
+-- count "(" "*" ")", with the word's place
+abbrev pub counts : List ℕ
+counts = k.count_word ∷ k.count_call ∷ []
+
+unfoldable pub count_word : Rule Lexeme (leaf_shape counts) ℕ
+count_word = leaf kind_of counts (λ t. Some t.place)
 
 abbrev pub count_shape : Shape
-count_shape = both (one_of k.count_call) (both (one_of k.left_paren) (both (one_of k.star) (one_of k.right_paren)))
+count_shape = both (leaf_shape counts) (both (one_of k.left_paren) (both (one_of k.star) (one_of k.right_paren)))
 
 unfoldable pub count : Rule Lexeme count_shape (ℕ × Function)
 count = pair (λ place u. (place, functions.Count)) count_word (k.left_paren ▸ (k.star ▸ word k.right_paren))
 
 -- ( min | max ) "(" expr ")": the parentheses open no level
 abbrev pub extremes : List ℕ
-extremes = k.min_call ∷ k.max_call ∷ []
+extremes = k.min_word ∷ k.max_word ∷ k.min_call ∷ k.max_call ∷ []
 
 abbrev pub extreme_of : ℕ × Bool → Expr → ℕ × Function
 extreme_of (place, true) x = (place, functions.Max x)
@@ -71,7 +74,7 @@ extreme_of (place, false) x = (place, functions.Min x)
 
 -- the word with its place, and whether it is max
 unfoldable pub extreme_word : Rule Lexeme (leaf_shape extremes) (ℕ × Bool)
-extreme_word = leaf kind_of extremes (λ t. Some (t.place, t.kind == k.max_call))
+extreme_word = leaf kind_of extremes (λ t. Some (t.place, t.kind == k.max_word || t.kind == k.max_call))
 
 abbrev pub extreme_shape : Shape
 extreme_shape = both (leaf_shape extremes) (both (one_of k.left_paren) (both or_shape (one_of k.right_paren)))
@@ -200,19 +203,29 @@ from_or_row outputs (Some rest) = with_rest (lists.Outputs outputs) rest
 unfoldable pub all_columns : ℕ → Rule Lexeme (both (one_of k.star) from_shape) Query
 all_columns depth = mapped (with_rest lists.All) (k.star ▸ from depth true)
 
+abbrev pub all_rows_shape : Shape
+all_rows_shape = both (comma_shape aggregate_shape) from_shape
+
 -- agg { "," agg } FROM .., without FOR
-unfoldable pub all_rows : ℕ → Rule Lexeme (both (comma_shape aggregate_shape) from_shape) Query
+unfoldable pub all_rows : ℕ → Rule Lexeme all_rows_shape Query
 all_rows depth = pair (λ aggregates rest. with_rest (lists.Aggregates aggregates) rest) (aggregate_list depth) (from depth false)
 
--- A list that begins with one of these words is one of aggregates.
-abbrev pub aggregate_words : List ℕ
-aggregate_words = k.count_call ∷ extremes
+-- A list that begins with one of these words directly before a parenthesis is one of aggregates; elsewhere at its beginning
+-- the word is a name.
+abbrev pub aggregate_calls : List ℕ
+aggregate_calls = k.count_call ∷ k.min_call ∷ k.max_call ∷ []
+
+abbrev pub aggregate_names : List ℕ
+aggregate_names = k.count_word ∷ k.min_word ∷ k.max_word ∷ []
+
+abbrev pub called_rows_shape : Shape
+called_rows_shape = record { empty = false; first = without aggregate_names all_rows_shape.first; after = all_rows_shape.after }
 
 abbrev pub rows_shape : Shape
 rows_shape = both (comma_shape output_shape) (at_most_once from_shape)
 
 abbrev pub each_row_shape : Shape
-each_row_shape = record { empty = false; first = without aggregate_words rows_shape.first; after = rows_shape.after }
+each_row_shape = record { empty = false; first = without aggregate_calls rows_shape.first; after = rows_shape.after }
 
 -- out { "," out } [ FROM .. ]
 unfoldable pub each_row : ℕ → Rule Lexeme rows_shape Query
@@ -222,13 +235,15 @@ each_row depth = pair from_or_row (output_list depth) (optional kind_of (from de
 abbrev pub selected_shape : Shape
 selected_shape = record {
   empty = false;
-  first = (k.star ∷ aggregate_words) ++ each_row_shape.first;
+  first = (k.star ∷ called_rows_shape.first) ++ each_row_shape.first;
   after = from_shape.after ++ each_row_shape.after;
 }
 
 unfoldable pub selected : ℕ → Rule Lexeme selected_shape Query
 selected depth =
-    widen selected_shape (or kind_of (all_columns depth) (or kind_of (all_rows depth) (barring aggregate_words each_row_shape (each_row depth))))
+    let aggregates = barring aggregate_names called_rows_shape (all_rows depth) in
+    let outputs = barring aggregate_calls each_row_shape (each_row depth) in
+    widen selected_shape (or kind_of (all_columns depth) (or kind_of aggregates outputs))
 
 -- SELECT list [ FROM target [ WHERE expr ] [ ORDER BY key { "," key } ] [ FOR ( UPDATE | NO KEY UPDATE | SHARE | KEY SHARE ) ] ]
 abbrev pub select_shape : Shape

@@ -4,13 +4,16 @@ ghost use Rattle.al_sql.specs.Queries.{count_word, count, extreme_of, extreme_wo
 
 use crate::outputs::alias;
 use al_expr::Expr;
-use al_phrases::kinds::{COMMA, COUNT_CALL, LEFT_PAREN, MAX_CALL, MIN_CALL, RIGHT_PAREN, STAR};
+use al_phrases::kinds::{
+    COMMA, COUNT, COUNT_CALL, LEFT_PAREN, MAX, MAX_CALL, MIN, MIN_CALL, RIGHT_PAREN, STAR,
+};
 use al_phrases::{Lexeme, expression, starts, starts_among, word};
 use al_statements::{Aggregate, Function};
 use al_values::{Cant, ListOf};
 use std::alloc::Global;
 
-const EXTREMES: [u8; 2] = [MIN_CALL, MAX_CALL];
+const COUNTS: [u8; 2] = [COUNT, COUNT_CALL];
+const EXTREMES: [u8; 4] = [MIN, MAX, MIN_CALL, MAX_CALL];
 
 #[tactic(auto, unfolding(crate::specs::Queries::count_word))]
 fn count_word(tokens: &[Lexeme]) -> Result<(u32, &[Lexeme]), Cant<usize>>
@@ -19,7 +22,7 @@ fn count_word(tokens: &[Lexeme]) -> Result<(u32, &[Lexeme]), Cant<usize>>
 {
     match tokens {
         [token, rest @ ..] => {
-            if token.kind != COUNT_CALL {
+            if !starts_among(&COUNTS, tokens) {
                 return Err(Cant::Why(tokens.len()));
             }
             Ok((token.place, rest))
@@ -51,7 +54,8 @@ fn extreme_word(tokens: &[Lexeme]) -> Result<((u32, bool), &[Lexeme]), Cant<usiz
             if !starts_among(&EXTREMES, tokens) {
                 return Err(Cant::Why(tokens.len()));
             }
-            Ok(((token.place, token.kind == MAX_CALL), rest))
+            let is_max = token.kind == MAX || token.kind == MAX_CALL;
+            Ok(((token.place, is_max), rest))
         }
         [] => Err(Cant::Why(0)),
     }
@@ -93,7 +97,7 @@ fn function(
     ensures gives { GivesStep (λ x. x.0) (λ x. x.1.now) result ((function depth).reads tokens.now) }
     ensures shorter { IfOk result (λ x. length x.1.now < length tokens.now) }
 {
-    if starts(COUNT_CALL, tokens) {
+    if starts_among(&COUNTS, tokens) {
         return count(tokens);
     }
     extreme(alloc, depth, tokens)

@@ -22,6 +22,7 @@ use std::alloc::Global;
 
 const FORS: [u8; 2] = [FOR, LATE_FOR];
 
+// A list that begins with one of these is one of aggregates.
 const AGGREGATES: [u8; 3] = [COUNT_CALL, MIN_CALL, MAX_CALL];
 
 #[tactic(auto, unfolding(crate::specs::Queries::row_mode))]
