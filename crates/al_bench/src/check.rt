@@ -1,18 +1,34 @@
 //! A CHECK on rows of two numbers.
 
-use al_expr::{Arithmetic, Column, ColumnList, Comparison, Expr, Operator, Prefix, eval};
-use al_values::{Cant, Kind, Name, NoMemory, Row, RowList, Value};
+use al_expr::{
+    Arithmetic, Bound, Column, ColumnList, Comparison, Expr, Operator, Prefix, bind_condition,
+    truth_of, truth_of_bound,
+};
+use al_values::{Cant, Kind, Name, NoMemory, Row, RowList, Tri, Value};
 use sqlite_items::{Boxed, Items};
 use std::alloc::Global;
 
+/// How a CHECK stands beside the rows.
+#[derive(Clone, Copy)]
+pub enum Form {
+    /// Its columns are named.
+    Named,
+    /// Its columns were bound to their places.
+    Bound,
+}
+
 /// Evaluates a CHECK of ten nodes on so many rows, as often, and gives how many rows passed, all together.
-pub fn checks(alloc: Global, rows: u32, times: u32) -> Result<u64, NoMemory> {
+pub fn checks(alloc: Global, form: Form, rows: u32, times: u32) -> Result<u64, NoMemory> {
     let check = check(alloc)?;
     let columns = columns(alloc)?;
+    let bound = bind_condition(alloc, &check, &columns)?;
     let rows = rows_of(alloc, rows)?;
     let mut passed: u64 = 0;
     for _ in 0..times {
-        passed = passed.wrapping_add(passing(alloc, &check, &columns, &rows)?);
+        passed = passed.wrapping_add(match form {
+            Form::Named => passing(alloc, &check, &columns, &rows)?,
+            Form::Bound => passing_bound(alloc, &bound, &rows)?,
+        });
     }
     Ok(passed)
 }
@@ -25,8 +41,20 @@ fn passing(
 ) -> Result<u64, NoMemory> {
     let mut passed: u64 = 0;
     for row in rows.as_slice() {
-        match eval(alloc, check, columns, row) {
-            Ok(Value::Bool(true)) => passed = passed.wrapping_add(1),
+        match truth_of(alloc, check, columns, row) {
+            Ok(Tri::Yes) => passed = passed.wrapping_add(1),
+            Ok(_) | Err(Cant::Why(_)) => {}
+            Err(Cant::NoMemory) => return Err(NoMemory),
+        }
+    }
+    Ok(passed)
+}
+
+fn passing_bound(alloc: Global, check: &Bound, rows: &RowList) -> Result<u64, NoMemory> {
+    let mut passed: u64 = 0;
+    for row in rows.as_slice() {
+        match truth_of_bound(alloc, check, row) {
+            Ok(Tri::Yes) => passed = passed.wrapping_add(1),
             Ok(_) | Err(Cant::Why(_)) => {}
             Err(Cant::NoMemory) => return Err(NoMemory),
         }

@@ -26,7 +26,8 @@ usage: al_bench queue shared|shared-asks|queued|queued-asks SESSIONS TIMES
        al_bench turn insert|select|refused TURNS JOURNALS TIMES
        al_bench spec TIMES <FILE
        al_bench tokens TIMES <FILE
-       al_bench eval ROWS TIMES
+       al_bench sql TIMES <FILE
+       al_bench eval|bound ROWS TIMES
        al_bench part CRATE CALL TRANSACTIONS EACH TABLES TIMES
 ";
 
@@ -73,7 +74,8 @@ fn perform(rt: &HostRuntime, alloc: Global, task: Task) -> Result<u64, Stop> {
         } => turn::journals(alloc, kind, turns, beside, times)?,
         Task::Spec { times } => input::specs(alloc, &input_of(rt, alloc)?, times)?,
         Task::Tokens { times } => input::texts(alloc, input_of(rt, alloc)?, times)?,
-        Task::Eval { rows, times } => check::checks(alloc, rows, times)?,
+        Task::Sql { times } => input::scripts(alloc, input_of(rt, alloc)?, times)?,
+        Task::Eval { form, rows, times } => check::checks(alloc, form, rows, times)?,
         Task::Part { part, size, times } => parts::calls(alloc, part, size, times)?,
     };
     Ok(sum)

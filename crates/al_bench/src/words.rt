@@ -1,5 +1,6 @@
 //! The words of the command line.
 
+use crate::check::Form;
 use crate::parts::{Part, Size, part_of};
 use crate::queue::Round;
 use crate::turn::Kind;
@@ -28,12 +29,17 @@ pub enum Task {
     Spec {
         times: u32,
     },
-    /// A text of SQL from standard input.
+    /// A text of SQL from standard input, for its tokens.
     Tokens {
         times: u32,
     },
-    /// A CHECK on so many rows.
+    /// A text of SQL from standard input, for its statements.
+    Sql {
+        times: u32,
+    },
+    /// A CHECK on so many rows, as it is read or bound to their columns once.
     Eval {
+        form: Form,
         rows: u32,
         times: u32,
     },
@@ -77,6 +83,14 @@ fn kind_of(kind: &str) -> Option<Kind> {
     }
 }
 
+fn form_of(form: &str) -> Option<Form> {
+    match form {
+        "eval" => Some(Form::Named),
+        "bound" => Some(Form::Bound),
+        _ => None,
+    }
+}
+
 fn number_of(word: &Word) -> Option<u32> {
     word.as_str().parse::<u32>().ok()
 }
@@ -85,6 +99,7 @@ fn task_on_input(what: &str, times: u32) -> Option<Task> {
     match what {
         "spec" => Some(Task::Spec { times }),
         "tokens" => Some(Task::Tokens { times }),
+        "sql" => Some(Task::Sql { times }),
         _ => None,
     }
 }
@@ -93,7 +108,8 @@ fn task_on_input(what: &str, times: u32) -> Option<Task> {
 pub fn task_of(words: &[Word]) -> Option<Task> {
     match words {
         [what, times] => task_on_input(what.as_str(), number_of(times)?),
-        [what, rows, times] if what.as_str() == "eval" => Some(Task::Eval {
+        [what, rows, times] => Some(Task::Eval {
+            form: form_of(what.as_str())?,
             rows: number_of(rows)?,
             times: number_of(times)?,
         }),

@@ -13,6 +13,7 @@ use al_values::{Cant, ListOf};
 use std::alloc::Global;
 
 const COUNTS: [u8; 2] = [COUNT, COUNT_CALL];
+
 const EXTREMES: [u8; 4] = [MIN, MAX, MIN_CALL, MAX_CALL];
 
 #[tactic(auto, unfolding(crate::specs::Queries::count_word))]
