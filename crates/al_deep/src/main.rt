@@ -9,8 +9,7 @@ use al_sql::read_script;
 use al_statements::{Query, Statement};
 use al_values::{Cant, Copied, Kind, NoMemory, Row, Txt, Value};
 use std::alloc::Global;
-use std::fmt::{Display, Formatter};
-use std::process::ExitCode;
+use std::fmt::{Display, Formatter, Write};
 use std::thread::{Builder, Threads};
 
 const THREAD_STACK: usize = 2 * 1024 * 1024;
@@ -45,7 +44,7 @@ impl From<NoMemory> for Outcome {
 }
 
 impl Display for Outcome {
-    fn fmt(&self, f: &mut Formatter) -> std::fmt::Result {
+    fn fmt<W: Write>(&self, f: &mut Formatter<W>) -> std::fmt::Result {
         f.write_str(match self {
             Outcome::Good => "good",
             Outcome::Unread => "not read",
@@ -132,16 +131,16 @@ fn tried(alloc: Global, sample: Sample) -> Result<Outcome, NoMemory> {
         Err(Cant::NoMemory) => return Err(NoMemory),
         Err(Cant::Why(_)) => return Ok(Outcome::Unread),
     };
-    let Some(Statement::Select(Query::Row(outputs))) = script.first() else {
+    let Some(Statement::Select(Query::Row(outputs))) = script.get(0) else {
         return Ok(Outcome::Unread);
     };
-    match outputs.first() {
+    match outputs.get(0) {
         Some(output) => outcome_of(alloc, sample, &output.expr),
         None => Ok(Outcome::Unread),
     }
 }
 
-fn outcome(alloc: Global, sample: Sample) -> Outcome {
+fn tried_outcome(alloc: Global, sample: Sample) -> Outcome {
     match tried(alloc, sample) {
         Ok(outcome) => outcome,
         Err(NoMemory) => Outcome::NoMemory,
@@ -151,27 +150,20 @@ fn outcome(alloc: Global, sample: Sample) -> Outcome {
 fn on_thread<R: Threads>(rt: &R, alloc: Global, sample: Sample) -> Outcome {
     match Builder::new()
         .stack_size(THREAD_STACK)
-        .spawn(rt, move || outcome(alloc, sample))
+        .spawn(rt, move || tried_outcome(alloc, sample))
     {
         Ok(handle) => handle.join(rt),
         Err(_) => Outcome::NoMemory,
     }
 }
 
-fn run(rt: &HostRuntime) -> std::io::Result<()> {
+fn main(rt: HostRuntime) -> std::io::Result<()> {
     let alloc = rt.alloc();
     for (name, sample) in [("deep", Sample::Deep), ("long", Sample::Long)] {
-        let main = outcome(alloc, sample);
+        let main = tried_outcome(alloc, sample);
         println!(rt; "{name}, on the main stack: {main}")?;
-        let thread = on_thread(rt, alloc, sample);
+        let thread = on_thread(&rt, alloc, sample);
         println!(rt; "{name}, on a thread's stack: {thread}")?;
     }
     Ok(())
-}
-
-fn main(rt: HostRuntime) -> ExitCode {
-    match run(&rt) {
-        Ok(()) => ExitCode::SUCCESS,
-        Err(_) => ExitCode::FAILURE,
-    }
 }

@@ -1,5 +1,5 @@
 -- `bound_value`, one equation for each variant.
-use Rattle.std.proofs.Common.{◌≡◌, ℕ, Bool, false, List, [], ◌∷◌, map, Result, Ok, Err, refl, sym, ap, ◌∙◌}
+use Rattle.std.proofs.Common.{◌≡◌, ℕ, Bool, false, List, Ok, Err, sym, ap, ◌∙◌}
 use Rattle.al_values.specs.declared.kinds.Kind.{Kind}
 use Rattle.al_values.specs.declared.scalar.Value.{Value}
 use Rattle.al_values.specs.declared.scalar.Value.TheVariants as values
@@ -16,7 +16,7 @@ use Rattle.al_expr.specs.declared.tree.Prefix.{Prefix}
 use Rattle.al_expr.specs.Then.{◌>>=◌}
 use Rattle.al_expr.specs.Values.{Outcome, converted, read_in, denied_if, absolute, measured}
 use Rattle.al_expr.specs.Evaluation.{prefixed_value, casts_value, tests_value}
-use Rattle.al_expr.specs.Bound.{placed, joints_value, within_ends, among, first_of, bound_step, bound_value, links_bound, items_bound}
+use Rattle.al_expr.specs.Bound.{followed, placed, joints_value, within_ends, among, first_of, bound_step, bound_value, links_bound, items_bound}
 
 pub bound_fixed : (value : Value) (row : List Value) →
     bound_value (b.Fixed value) row ≡ Ok value
@@ -71,6 +71,13 @@ pub bound_in : (negated : Bool) (value : Bound) (items : List Bound) (row : List
 unfolding bound_value items_bound
 bound_in negated value items row =
     ap (λ x. bound_value x row) (sym (b.rolls-In negated value items)) ∙ fold-roll-Bound Outcome (bound_step row) (Bound-F.In negated value items)
+
+-- IN, whose value is known
+pub bound_within : (bound : Bound) (negated : Bool) (operand : Bound) (items : List Bound) (row : List Value) (value : Value) → bound ≡ b.In negated operand items → bound_value operand row ≡ Ok value →
+    bound_value bound row ≡ followed (among value (values.Bool false) (items_bound row items)) (λ truth. Ok (denied_if negated truth))
+bound_within bound negated operand items row value is known =
+    ap (λ x. bound_value x row) is ∙ bound_in negated operand items row
+    ∙ ap (λ (x : Outcome). (x >>= (λ a. among a (values.Bool false) (items_bound row items))) >>= (λ truth. Ok (denied_if negated truth))) known
 
 pub bound_coalesce : (items : List Bound) (row : List Value) →
     bound_value (b.Coalesce items) row ≡ first_of (items_bound row items)

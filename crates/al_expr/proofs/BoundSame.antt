@@ -1,5 +1,5 @@
 -- A bound expression has the value of the expression, on every row: node by node.
-use Rattle.std.proofs.Common.{◌≡◌, ℕ, suc, zero, ◌+◌, Bool, true, false, List, [], ◌∷◌, map, Option, Some, None, option_map, Result, Ok, Err, refl, sym, ap, ◌∙◌, subst, arith}
+use Rattle.std.proofs.Common.{◌≡◌, ℕ, suc, ◌+◌, Bool, true, false, List, [], ◌∷◌, map, Option, Some, None, option_map, Result, Ok, Err, refl, sym, ap, ◌∙◌, subst, arith}
 use Rattle.std.specs.Prelude.{if◌then◌else◌, IfOk}
 use Rattle.std.specs.List.{slice_get}
 use Rattle.al_values.specs.declared.kinds.Kind.{Kind}
@@ -9,14 +9,11 @@ use Rattle.al_values.specs.declared.scalar.Value.TheVariants as values
 use Rattle.al_values.specs.Convert.{assigned}
 use Rattle.al_values.specs.Reading.{read_as}
 use Rattle.al_expr.specs.declared.bound.Bound.{Bound}
-use Rattle.al_expr.specs.declared.bound.Bound.TheVariants as b
 use Rattle.al_expr.specs.declared.column.Column.{Column}
 use Rattle.al_expr.specs.declared.kinds.Typed.{Typed}
 use Rattle.al_expr.specs.declared.kinds.Typed.TheVariants as types
 use Rattle.al_expr.specs.declared.tree.Comparison.TheVariants as comparisons
 use Rattle.al_expr.specs.declared.tree.Operator.{Operator}
-use Rattle.al_expr.specs.declared.tree.Operator.TheVariants as operators
-use Rattle.al_expr.specs.declared.tree.Prefix.{Prefix}
 use Rattle.al_expr.specs.declared.tree.Expr.{Expr}
 use Rattle.al_expr.specs.declared.tree.Expr.TheOpen.{Expr-F}
 use Rattle.al_expr.specs.declared.tree.Expr.TheViews.{roll-Expr}
@@ -27,7 +24,7 @@ use Rattle.al_expr.specs.Columns.{same_name, column_value, first_value, later_va
 use Rattle.al_expr.specs.Kinds.{common, common_with, settled}
 use Rattle.al_expr.specs.Nominal.{nominal, items_nominal, operator_gives, shared_by, met}
 use Rattle.al_expr.specs.Values.{Outcome, converted, literal_value, read_in, decides, operated, operand_kind, related, either, denied_if, absolute, measured}
-use Rattle.al_expr.specs.Evaluation.{Side, value_of, links_sides, items_sides, sides_value, decided_value, right_value, operator_value, chain_value, prefixed_value, casts_value, tests_value, side_value, below_high, between_value, or_more, in_value, in_items, unless_null, coalesce_value}
+use Rattle.al_expr.specs.Evaluation.{Side, value_of, links_sides, items_sides, decided_value, operator_value, chain_value, prefixed_value, casts_value, tests_value, side_value, or_more, in_value, unless_null, coalesce_value}
 use Rattle.al_expr.specs.Bound.{IsBound, or_null, placed, joint_value, joints_value, within_ends, among, first_of, bound_value, links_bound, items_bound}
 use Rattle.al_expr.specs.Binding.{place_from, bound_place, bound_outcome, written, read_untyped, read_bound, joint_of, bound_of, bound_as, stored_bound, links_joints, items_as}
 use Rattle.al_expr.specs.Roots.{root_of, stored_as, stored_of}

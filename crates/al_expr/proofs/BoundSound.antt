@@ -2,14 +2,13 @@
 use Rattle.std.proofs.Common.{◌≡◌, true, List, Ok, sym, subst}
 use Rattle.al_values.specs.declared.kinds.Kind.{Kind}
 use Rattle.al_values.specs.declared.kinds.Kind.TheVariants as kinds
-use Rattle.al_values.specs.declared.scalar.Value.{Value}
 use Rattle.al_expr.specs.declared.bound.Bound.{Bound}
 use Rattle.al_expr.specs.declared.column.Column.{Column}
 use Rattle.al_expr.specs.declared.kinds.Typed.{Typed}
 use Rattle.al_expr.specs.declared.kinds.Typed.TheVariants as types
 use Rattle.al_expr.specs.declared.tree.Expr.{Expr}
 use Rattle.al_expr.specs.Binding.{written, bound_of, bound_as, stored_bound}
-use Rattle.al_expr.specs.Bound.{IsBound, IsSoundOn}
+use Rattle.al_expr.specs.Bound.{IsSoundOn}
 use Rattle.al_expr.specs.Kinds.{is_truth, settled}
 use Rattle.al_expr.specs.Nominal.{nominal}
 use Rattle.al_expr.specs.Roots.{is_assignable}

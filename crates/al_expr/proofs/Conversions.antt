@@ -1,6 +1,6 @@
 -- What conversions give is a value of the kind.
-use Rattle.std.proofs.Common.{◌≡◌, ℕ, suc, zero, ◌+◌, ◌-◌, ◌≤◌, ℤ, pos, Bool, true, false, List, [], ◌∷◌, take, drop, Option, Some, None, Result, Ok, Err, refl, sym, ap, ◌∙◌, subst, arith}
-use Rattle.std.specs.Prelude.{if◌then◌else◌, ◌==◌, ◌&&◌, count_by, nat_le, length, slice_index, option_map, map}
+use Rattle.std.proofs.Common.{◌≡◌, ℕ, suc, ◌+◌, ◌-◌, ◌≤◌, ℤ, Bool, true, false, List, [], ◌∷◌, take, drop, Option, Some, None, Result, Ok, Err, refl, ap, ◌∙◌, arith}
+use Rattle.std.specs.Prelude.{if◌then◌else◌, ◌==◌, ◌&&◌, nat_le, length, slice_index, map}
 use Rattle.std.proofs.lemmas.Bool.Decides.{nat_tests}
 use Rattle.std.proofs.lemmas.List.Recursion.{is_count_by}
 use Rattle.std.specs.Char.{to_ascii_lowercase}
@@ -11,15 +11,15 @@ use Rattle.al_values.specs.declared.kinds.CastFault.TheVariants as cast_faults
 use Rattle.al_values.specs.declared.scalar.Value.{Value}
 use Rattle.al_values.specs.declared.scalar.Value.TheVariants as values
 use Rattle.al_values.specs.Characters.{begins_character, bytes_of, characters, first_characters, only_spaces_after}
-use Rattle.al_values.specs.Convert.{text_of, assigned, casted, spelled_into}
-use Rattle.al_values.specs.Days.{is_date, is_day, day_number}
+use Rattle.al_values.specs.Convert.{text_of, assigned, casted}
+use Rattle.al_values.specs.Days.{is_date, day_number}
 use Rattle.al_values.specs.Kinds.{fits}
 use Rattle.al_values.specs.Reading.{ranged, number_read, number_of, trimmed, boolean_read, is_among, true_words, false_words, dated, date_read, stored_text, read_as, unsigned_of}
 use Rattle.al_expr.specs.declared.kinds.Typed.{Typed}
 use Rattle.al_expr.specs.declared.kinds.Typed.TheVariants as types
 use Rattle.al_expr.specs.Kinds.{is_castable, cast_kind}
 use Rattle.al_expr.specs.Roots.{is_stored}
-use Rattle.al_expr.specs.Rows.{is_of, is_written, is_typed, is_sound, is_fault_of_row}
+use Rattle.al_expr.specs.Rows.{is_of, is_written, is_typed, is_sound}
 use Rattle.al_expr.specs.Values.{Outcome, text_bytes, bounded, converted}
 use Rattle.al_expr.proofs.DatesOfDays.{date_is_day}
 

@@ -1,5 +1,5 @@
 -- Worked tables, by computation: rules that hold of their rows, and rules that don't.
-use Rattle.std.proofs.Common.{◌≡◌, ℕ, pos, neg_ℤ, Bool, true, false, List, [], ◌∷◌, Result, Ok, Err, refl, ap, ◌∙◌}
+use Rattle.std.proofs.Common.{◌≡◌, ℕ, pos, true, false, List, [], ◌∷◌, Result, Ok, Err, refl, ap}
 use Rattle.std.specs.Prelude.{codes, not}
 use Rattle.al_values.specs.declared.kinds.Kind.{Kind}
 use Rattle.al_values.specs.declared.kinds.Kind.TheVariants as kinds
@@ -17,7 +17,7 @@ use Rattle.al_expr.specs.declared.tree.Expr.TheVariants as e
 use Rattle.al_expr.specs.Nominal.{links_nominal, items_nominal}
 use Rattle.al_expr.specs.Evaluation.{links_sides, items_sides}
 use Rattle.al_expr.specs.Roots.{root_of, truth_of}
-use Rattle.al_expr.specs.Tables.{TableColumn, VersionedRow, Check, ForeignKey, Rule, NotNull, Checked, Key, Foreign, Table, Database, rows_fit, readable}
+use Rattle.al_expr.specs.Tables.{TableColumn, VersionedRow, Rule, NotNull, Checked, Key, Foreign, Table, rows_fit, readable}
 use Rattle.al_expr.specs.Holding.{is_met, breaks, holds}
 use Rattle.al_expr.proofs.NominalNodes.{nominal_nodes}
 use Rattle.al_expr.proofs.ValueNodes.{value_nodes}

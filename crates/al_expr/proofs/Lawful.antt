@@ -1,12 +1,11 @@
 -- Where an expression has a kind and the row fits the columns, its value is of that kind, or the row is at fault.
-use Rattle.std.proofs.Common.{◌≡◌, ℕ, Bool, true, false, List, [], ◌∷◌, map, Option, Some, None, Result, Ok, Err, refl, sym, ap, ◌∙◌, subst}
+use Rattle.std.proofs.Common.{◌≡◌, ℕ, Bool, true, false, List, [], ◌∷◌, map, Option, Some, None, Result, Ok, refl, sym, ap, ◌∙◌, subst}
 use Rattle.std.specs.Prelude.{if◌then◌else◌, ◌&&◌}
 use Rattle.al_values.specs.declared.kinds.Kind.{Kind}
 use Rattle.al_values.specs.declared.kinds.Kind.TheVariants as kinds
 use Rattle.al_values.specs.declared.scalar.Value.{Value}
 use Rattle.al_values.specs.declared.scalar.Value.TheVariants as values
 use Rattle.al_values.specs.Convert.{casted}
-use Rattle.al_values.specs.Reading.{read_as}
 use Rattle.al_expr.specs.declared.column.Column.{Column}
 use Rattle.al_expr.specs.declared.kinds.Typed.{Typed}
 use Rattle.al_expr.specs.declared.kinds.Typed.TheVariants as types
@@ -16,25 +15,18 @@ use Rattle.al_expr.specs.declared.tree.Comparison.TheVariants as comparisons
 use Rattle.al_expr.specs.declared.tree.Operator.TheVariants as operators
 use Rattle.al_expr.specs.declared.tree.Prefix.{Prefix}
 use Rattle.al_expr.specs.declared.tree.Expr.{Expr}
-use Rattle.al_expr.specs.declared.tree.Expr.TheOpen.{Expr-F}
-use Rattle.al_expr.specs.declared.tree.Expr.TheViews.{roll-Expr}
-use Rattle.al_expr.specs.declared.tree.Expr.TheFolds.{map-Expr, ind-Expr}
-use Rattle.al_expr.specs.declared.tree.Expr.TheVariants as e
 use Rattle.al_expr.specs.Then.{◌>>=◌}
-use Rattle.al_expr.specs.Columns.{same_name, column_kind, column_value, first_value, later_values}
-use Rattle.al_expr.specs.Kinds.{common, common_with, settled, operator_kind, prefix_kind, cast_kind, signed_kind, length_kind, is_text}
-use Rattle.al_expr.specs.Nominal.{nominal, links_nominal, items_nominal, operator_gives, prefix_gives, chain_gives, prefixed_gives, casts_gives, shared_by, met, as_typed}
+use Rattle.al_expr.specs.Columns.{same_name, column_kind, column_value}
+use Rattle.al_expr.specs.Kinds.{common, common_with, settled, operator_kind, prefix_kind, cast_kind}
+use Rattle.al_expr.specs.Nominal.{nominal, links_nominal, items_nominal, operator_gives, prefix_gives, chain_gives, prefixed_gives, casts_gives, shared_by}
 use Rattle.al_expr.specs.Rows.{is_of, is_written, is_typed, is_sound, row_fits}
-use Rattle.al_expr.specs.Typing.{Answer, kind_is, links_kinds, items_kinds, named_kind, ruled, chain_kind, prefixed_kind, casts_kind, tests_kind, shared_kind, alike, first_kind, literal_kind}
-use Rattle.al_expr.specs.Values.{Outcome, read_in, converted, both, either, related, decides, denied_if, is_null, tested, operand_kind, absolute, measured, prefix_value, literal_value, operated}
+use Rattle.al_expr.specs.Typing.{Answer, kind_is, links_kinds, items_kinds, named_kind, ruled, chain_kind, prefixed_kind, casts_kind, tests_kind, shared_kind}
+use Rattle.al_expr.specs.Values.{read_in, converted, both, either, related, decides, denied_if, is_null, tested, operand_kind, prefix_value, operated}
 use Rattle.al_expr.specs.Evaluation.{Side, value_of, links_sides, items_sides, operator_value, decided_value, right_value, sides_value, chain_value, prefixed_value, casts_value, tests_value, side_value, below_high, between_value, or_more, in_value, in_items, unless_null, coalesce_value}
-use Rattle.al_expr.proofs.Conversions.{by_if, read_sound, cast_sound, converted_sound}
-use Rattle.al_expr.proofs.KindNodes.{kind_literal, kind_date, kind_column, kind_chain, kind_prefixed, kind_casts, kind_is_null, kind_between, kind_in, kind_coalesce, kind_abs, kind_length}
-use Rattle.al_expr.proofs.NominalNodes.{nominal_literal, nominal_date, nominal_column, nominal_chain, nominal_prefixed, nominal_casts, nominal_is_null, nominal_between, nominal_in, nominal_coalesce, nominal_abs, nominal_length}
-use Rattle.al_expr.proofs.ValueNodes.{value_literal, value_date, value_column, value_chain, value_prefixed, value_casts, value_is_null, value_between, value_in, value_coalesce, value_abs, value_length}
-use Rattle.al_expr.proofs.NominalLemmas.{operator_agrees, prefix_agrees, cast_agrees, length_agrees, alike_agrees, first_agrees}
+use Rattle.al_expr.proofs.Conversions.{by_if, cast_sound, converted_sound}
+use Rattle.al_expr.proofs.NominalLemmas.{operator_agrees, prefix_agrees, cast_agrees}
 use Rattle.al_expr.proofs.Openings.{opened, ruled_is}
-use Rattle.al_expr.proofs.OperatorSound.{Sound, read_kind, then_sound, then_typed, literal_sound, both_truth, either_truth, denied_if_truth, related_truth, measured_sound, absolute_sound, read_in_sound, operated_sound, decided_sound, signed_is, prefix_sound}
+use Rattle.al_expr.proofs.OperatorSound.{Sound, read_kind, then_sound, then_typed, both_truth, either_truth, denied_if_truth, related_truth, read_in_sound, operated_sound, decided_sound, prefix_sound}
 use Rattle.al_expr.proofs.Widening.{nothing, joins}
 
 -- the law, of one expression

@@ -1,6 +1,6 @@
 -- What operators give is a value of the kind that they give.
-use Rattle.std.proofs.Common.{◌≡◌, ℕ, ℤ, pos, neg_ℤ, ◌+ℤ◌, ◌-ℤ◌, ◌*ℤ◌, Bool, true, false, List, [], ◌∷◌, ◌++◌, Option, Some, None, option_map, Result, Ok, Err, refl, sym, ap, ◌∙◌, subst, length, unsigned_abs}
-use Rattle.std.specs.Prelude.{if◌then◌else◌, ◌&&◌, nat_le}
+use Rattle.std.proofs.Common.{◌≡◌, ℤ, pos, neg_ℤ, ◌+ℤ◌, ◌-ℤ◌, ◌*ℤ◌, Bool, true, false, ◌++◌, Option, Some, None, option_map, Ok, Err, refl, sym, ap, subst, unsigned_abs}
+use Rattle.std.specs.Prelude.{if◌then◌else◌, ◌&&◌}
 use Rattle.std.specs.Int.RustNames.{int_div, int_rem}
 use Rattle.std.specs.Ordering.{int_eq}
 use Rattle.std.specs.declared.cmp.Ordering.{Ordering}
@@ -15,7 +15,6 @@ use Rattle.al_values.specs.Order.{compared}
 use Rattle.al_values.specs.Reading.{read_as}
 use Rattle.al_expr.specs.declared.kinds.Typed.{Typed}
 use Rattle.al_expr.specs.declared.kinds.Typed.TheVariants as types
-use Rattle.al_expr.specs.declared.fault.EvalFault.{EvalFault}
 use Rattle.al_expr.specs.declared.fault.EvalFault.TheVariants as faults
 use Rattle.al_expr.specs.declared.tree.Operator.{Operator}
 use Rattle.al_expr.specs.declared.tree.Operator.TheVariants as operators
@@ -25,10 +24,10 @@ use Rattle.al_expr.specs.declared.tree.Arithmetic.TheVariants as arithmetics
 use Rattle.al_expr.specs.declared.tree.Prefix.{Prefix}
 use Rattle.al_expr.specs.declared.tree.Prefix.TheVariants as prefixes
 use Rattle.al_expr.specs.Then.{◌>>=◌}
-use Rattle.al_expr.specs.Kinds.{is_truth, is_text, whole, wider, shared, common, settled, calculated_kind, arithmetic_kind, operator_kind, signed_kind, prefix_kind}
-use Rattle.al_expr.specs.Nominal.{met, as_typed, operator_gives, prefix_gives}
-use Rattle.al_expr.specs.Rows.{is_of, is_written, is_typed, is_sound, is_fault_of_row}
-use Rattle.al_expr.specs.Values.{Outcome, read_in, both, either, denied, denied_if, tested, related, by_order, in_kind, in_calendar, calculated, minus, absolute, joined, bounded, measured, operated, operand_kind, beside, prefix_value, decides, literal_value}
+use Rattle.al_expr.specs.Kinds.{is_truth, is_text, whole, common, settled, calculated_kind, arithmetic_kind, operator_kind, signed_kind, prefix_kind}
+use Rattle.al_expr.specs.Nominal.{as_typed, operator_gives}
+use Rattle.al_expr.specs.Rows.{is_of, is_typed, is_sound}
+use Rattle.al_expr.specs.Values.{Outcome, read_in, both, either, denied, denied_if, related, by_order, in_kind, in_calendar, calculated, minus, absolute, joined, measured, operated, operand_kind, beside, prefix_value, decides, literal_value}
 use Rattle.al_expr.specs.Typing.{literal_kind}
 use Rattle.al_expr.proofs.Conversions.{by_if, read_sound, bounded_sound, converted_sound}
 

@@ -1,5 +1,5 @@
 -- The law of values and kinds, at the root.
-use Rattle.std.proofs.Common.{◌≡◌, ℕ, ℤ, Bool, true, false, List, Option, Some, None, Result, Ok, Err, refl, sym, ap, ◌∙◌, subst}
+use Rattle.std.proofs.Common.{◌≡◌, true, List, Result, Ok, Err, refl, sym, ap, ◌∙◌, subst}
 use Rattle.al_values.specs.Gives.{GivesUnlessNoMemory}
 use Rattle.al_values.specs.declared.cant.Cant.{Cant}
 use Rattle.al_values.specs.declared.cant.Cant.TheVariants as cants
@@ -7,7 +7,6 @@ use Rattle.al_values.specs.declared.kinds.Kind.{Kind}
 use Rattle.al_values.specs.declared.kinds.Kind.TheVariants as kinds
 use Rattle.al_values.specs.declared.kinds.Tri.{Tri}
 use Rattle.al_values.specs.declared.scalar.Value.{Value}
-use Rattle.al_values.specs.declared.scalar.Value.TheVariants as values
 use Rattle.al_values.specs.Convert.{assigned}
 use Rattle.al_expr.specs.declared.column.Column.{Column}
 use Rattle.al_expr.specs.declared.kinds.Typed.{Typed}
@@ -18,11 +17,11 @@ use Rattle.al_expr.specs.Then.{◌>>=◌}
 use Rattle.al_expr.specs.Kinds.{is_truth, settled}
 use Rattle.al_expr.specs.Typing.{kind_is}
 use Rattle.al_expr.specs.Nominal.{nominal}
-use Rattle.al_expr.specs.Rows.{is_of, is_typed, is_sound, is_fault_of_row, row_fits}
-use Rattle.al_expr.specs.Values.{Outcome, converted, read_in}
-use Rattle.al_expr.specs.Evaluation.{Side, value_of, side_value}
-use Rattle.al_expr.specs.Roots.{root_of, output_of, stored_as, stored_of, as_truth, truth_of, is_stored, is_assignable, IsSound, IsTruth}
-use Rattle.al_expr.proofs.Conversions.{is_read, assigned_sound, converted_sound}
+use Rattle.al_expr.specs.Rows.{is_typed, is_sound, is_fault_of_row, row_fits}
+use Rattle.al_expr.specs.Values.{Outcome}
+use Rattle.al_expr.specs.Evaluation.{value_of, side_value}
+use Rattle.al_expr.specs.Roots.{root_of, output_of, stored_as, stored_of, as_truth, truth_of, is_assignable, IsSound, IsTruth}
+use Rattle.al_expr.proofs.Conversions.{assigned_sound, converted_sound}
 use Rattle.al_expr.proofs.OperatorSound.{read_kind, read_in_sound, then_sound}
 use Rattle.al_expr.proofs.Lawful.{IsGood, side_sound, good}
 use Rattle.al_expr.proofs.TypedValues.{lawful}

@@ -1,6 +1,6 @@
 -- Where an expression has a kind and the row fits the columns, its value is of that kind, or the row is at fault: for every
 -- expression, node by node.
-use Rattle.std.proofs.Common.{◌≡◌, ℕ, Bool, true, false, List, [], ◌∷◌, map, Option, Some, None, Result, Ok, Err, refl, sym, ap, ◌∙◌, subst}
+use Rattle.std.proofs.Common.{◌≡◌, ℕ, Bool, true, List, Option, Some, None, Ok, refl, sym, ap, ◌∙◌, subst}
 use Rattle.al_values.specs.declared.kinds.Kind.{Kind}
 use Rattle.al_values.specs.declared.kinds.Kind.TheVariants as kinds
 use Rattle.al_values.specs.declared.scalar.Value.{Value}
@@ -16,21 +16,21 @@ use Rattle.al_expr.specs.declared.tree.Expr.TheViews.{roll-Expr}
 use Rattle.al_expr.specs.declared.tree.Expr.TheFolds.{map-Expr, ind-Expr}
 use Rattle.al_expr.specs.declared.tree.Expr.TheVariants as e
 use Rattle.al_expr.specs.Then.{◌>>=◌}
-use Rattle.al_expr.specs.Columns.{column_kind, column_value}
+use Rattle.al_expr.specs.Columns.{column_kind}
 use Rattle.al_expr.specs.Kinds.{common, common_with, settled, signed_kind, length_kind}
 use Rattle.al_expr.specs.Nominal.{nominal, links_nominal, items_nominal, shared_by, met, as_typed, chain_gives, prefixed_gives, casts_gives}
-use Rattle.al_expr.specs.Rows.{is_of, is_typed, is_sound, row_fits}
-use Rattle.al_expr.specs.Typing.{Answer, kind_is, links_kinds, items_kinds, named_kind, ruled, chain_kind, prefixed_kind, casts_kind, tests_kind, shared_kind, alike, first_kind, literal_kind}
-use Rattle.al_expr.specs.Values.{Outcome, converted, absolute, measured}
-use Rattle.al_expr.specs.Evaluation.{Side, value_of, links_sides, items_sides, chain_value, prefixed_value, casts_value, side_value, coalesce_value}
+use Rattle.al_expr.specs.Rows.{is_sound, row_fits}
+use Rattle.al_expr.specs.Typing.{kind_is, links_kinds, items_kinds, ruled, chain_kind, prefixed_kind, casts_kind, tests_kind, shared_kind, alike, first_kind, literal_kind}
+use Rattle.al_expr.specs.Values.{Outcome, absolute, measured}
+use Rattle.al_expr.specs.Evaluation.{value_of, links_sides, items_sides, chain_value, prefixed_value, casts_value, side_value, coalesce_value}
 use Rattle.al_expr.proofs.Conversions.{read_sound, converted_sound}
 use Rattle.al_expr.proofs.KindNodes.{kind_literal, kind_date, kind_column, kind_chain, kind_prefixed, kind_casts, kind_is_null, kind_between, kind_in, kind_coalesce, kind_abs, kind_length}
 use Rattle.al_expr.proofs.NominalNodes.{nominal_literal, nominal_date, nominal_column, nominal_chain, nominal_prefixed, nominal_casts, nominal_is_null, nominal_between, nominal_in, nominal_coalesce, nominal_abs, nominal_length}
 use Rattle.al_expr.proofs.ValueNodes.{value_literal, value_date, value_column, value_chain, value_prefixed, value_casts, value_is_null, value_between, value_in, value_coalesce, value_abs, value_length}
-use Rattle.al_expr.proofs.NominalLemmas.{length_agrees, alike_agrees, first_agrees}
+use Rattle.al_expr.proofs.NominalLemmas.{length_agrees, alike_agrees}
 use Rattle.al_expr.proofs.Openings.{opened, ruled_is}
 use Rattle.al_expr.proofs.OperatorSound.{read_kind, then_sound, then_typed, literal_sound, measured_sound, absolute_sound, signed_is}
-use Rattle.al_expr.proofs.Lawful.{IsLawful, IsGood, side, good, same_ok, column_sound, named_of, Held, links_of, items_of, chain_named, chain_sound, prefixed_named, prefixed_sound, casts_named, casts_sound, tests_sound, between_sound, in_sound, shared_named, coalesce_sound, side_sound}
+use Rattle.al_expr.proofs.Lawful.{IsLawful, side, good, same_ok, column_sound, named_of, Held, links_of, items_of, chain_named, chain_sound, prefixed_named, prefixed_sound, casts_named, casts_sound, tests_sound, between_sound, in_sound, shared_named, coalesce_sound, side_sound}
 
 -- what the law says of a node, by what its equations give
 lawful_by : (columns : List Column) (row : List Value) (expr : Expr) (typed given : Typed) (outcome : Outcome) →

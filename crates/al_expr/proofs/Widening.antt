@@ -1,17 +1,14 @@
 -- The values of operands are values of the kind that the operands share.
-use Rattle.std.proofs.Common.{◌≡◌, ℕ, ℤ, Bool, true, false, List, [], ◌∷◌, map, Option, Some, None, option_map, Result, Ok, Err, refl, sym, ap, ◌∙◌, arith}
+use Rattle.std.proofs.Common.{◌≡◌, ℕ, true, List, [], ◌∷◌, Option, Some, None, option_map, Ok, refl, sym, ap, ◌∙◌, arith}
 use Rattle.std.proofs.lemmas.Int.{ints}
 use Rattle.al_values.specs.declared.kinds.Kind.{Kind}
 use Rattle.al_values.specs.declared.kinds.Kind.TheVariants as kinds
 use Rattle.al_values.specs.declared.scalar.Value.{Value}
 use Rattle.al_values.specs.declared.scalar.Value.TheVariants as values
-use Rattle.al_values.specs.Kinds.{fits}
 use Rattle.al_expr.specs.declared.kinds.Typed.{Typed}
 use Rattle.al_expr.specs.declared.kinds.Typed.TheVariants as types
-use Rattle.al_expr.specs.declared.kinds.TypeFault.{TypeFault}
-use Rattle.al_expr.specs.Kinds.{shared, wider, common, common_with, settled}
+use Rattle.al_expr.specs.Kinds.{shared, common, common_with, settled}
 use Rattle.al_expr.specs.Rows.{is_of}
-use Rattle.al_expr.specs.Then.{◌>>=◌}
 use Rattle.al_expr.specs.Typing.{Answer, shared_kind}
 use Rattle.al_expr.proofs.Openings.{opened}
 

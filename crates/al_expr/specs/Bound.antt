@@ -1,5 +1,5 @@
 -- The value of a bound expression on a row: names are places of the row, and what kinds say is worked out before.
-use Rattle.std.specs.Prelude.{◌≡◌, ℕ, Bool, true, false, if◌then◌else◌, List, [], ◌∷◌, map, Option, Some, None, Result, Ok, Err}
+use Rattle.std.specs.Prelude.{◌≡◌, ℕ, true, false, if◌then◌else◌, List, [], ◌∷◌, map, Option, Some, None, Result, Ok, Err}
 use Rattle.std.specs.List.{slice_get}
 use Rattle.al_values.specs.declared.kinds.Kind.{Kind}
 use Rattle.al_values.specs.declared.kinds.Tri.{Tri}
@@ -19,6 +19,10 @@ use Rattle.al_expr.specs.Rows.{is_sound, row_fits}
 use Rattle.al_expr.specs.Then.{◌>>=◌}
 use Rattle.al_expr.specs.Values.{Outcome, converted, read_in, decides, operated, related, either, denied_if, absolute, measured}
 use Rattle.al_expr.specs.Evaluation.{prefixed_value, casts_value, tests_value, below_high, or_more, unless_null}
+
+-- what comes of a value, where there is one
+abbrev pub followed : Outcome → (Value → Outcome) → Outcome
+followed value step = value >>= step
 
 -- the value at a place of a row, or Null
 abbrev pub or_null : Option Value → Value

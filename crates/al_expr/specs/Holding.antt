@@ -10,7 +10,7 @@ use Rattle.al_expr.specs.declared.fault.EvalFault.{EvalFault}
 use Rattle.al_expr.specs.declared.tree.Comparison.TheVariants as comparisons
 use Rattle.al_expr.specs.Values.{is_null, related}
 use Rattle.al_expr.specs.Roots.{root_of, truth_of}
-use Rattle.al_expr.specs.Tables.{Check, ForeignKey, Rule, NotNull, Checked, Key, Foreign, Table, VersionedRow, Database, numbered, readable, value_at}
+use Rattle.al_expr.specs.Tables.{Rule, NotNull, Checked, Key, Foreign, Table, VersionedRow, Database, numbered, readable, value_at}
 
 -- a condition is met where it is true or null; a fault doesn't meet it
 abbrev pub is_met : Result Tri EvalFault → Bool

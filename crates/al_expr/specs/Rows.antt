@@ -1,5 +1,5 @@
 -- Which values a column may have, and which rows fit columns (manual, chapter 8, Data Types).
-use Rattle.std.specs.Prelude.{◌≡◌, Bool, true, false, ◌&&◌, nat_le, List, [], ◌∷◌, Result, Ok, Err}
+use Rattle.std.specs.Prelude.{Bool, true, false, ◌&&◌, nat_le, List, [], ◌∷◌, Result, Ok, Err}
 use Rattle.al_values.specs.declared.kinds.Kind.{Kind}
 use Rattle.al_values.specs.declared.kinds.Kind.TheVariants as kinds
 use Rattle.al_values.specs.declared.kinds.CastFault.TheVariants as cast_faults

@@ -1,13 +1,14 @@
-ghost use Rattle.std.specs.Prelude.{◌≡◌, true, Ok, IfOk};
+ghost use Rattle.std.specs.Prelude.{◌≡◌, true, Some, Ok, IfOk};
 ghost use Rattle.std.specs.Option.{option_copied};
 ghost use Rattle.al_values.specs.Reading.{read_as};
 ghost use Rattle.al_expr.specs.Bound.{IsBound, IsSoundOn};
 ghost use Rattle.al_expr.specs.Binding.{place_from, bound_place, bound_outcome, written, literal_read, read_untyped, read_bound, joint_of, bound_of, bound_as, links_joints, items_as, stored_bound};
 ghost use Rattle.al_expr.specs.Evaluation.{side_value};
 ghost use Rattle.al_expr.specs.Kinds.{is_truth, settled};
-ghost use Rattle.al_expr.specs.Nominal.{nominal, chain_gives, links_nominal};
+ghost use Rattle.al_expr.specs.Columns.{column_kind};
+ghost use Rattle.al_expr.specs.Nominal.{nominal, as_typed, met, shared_by, items_nominal, chain_gives, prefixed_gives, casts_gives, links_nominal};
 ghost use Rattle.al_expr.specs.Roots.{root_of, output_of, stored_of, is_assignable};
-ghost use Rattle.al_expr.specs.Typing.{kind_is};
+ghost use Rattle.al_expr.specs.Typing.{kind_is, literal_kind, tests_kind};
 ghost use Rattle.al_expr.specs.Values.{converted, literal_value, read_in};
 
 use crate::arithmetic::literal_value;
@@ -21,7 +22,7 @@ use crate::nominal::{
 use crate::texts::{read_in, read_text};
 use crate::typing::{literal_kind, typed_tests};
 use crate::values::operand_kind;
-use crate::{Bound, Column, ColumnList, Expr, Joint, Operator, Typed};
+use crate::{Bound, Column, ColumnList, Expr, Joint, Operator, Prefix, Typed};
 use al_values::{Cant, Copied, Kind, Name, NoMemory, Txt, Value};
 use sqlite_items::{Boxed, Items};
 use std::alloc::Global;
@@ -69,7 +70,8 @@ fn bind_store(alloc: Global, kind: Kind, expr: &Expr, columns: &[Column]) -> Res
     }
 }
 
-/// An expression's tree, with its kind.
+/// An expression's tree, with its kind. Each node with operands has a function of its own, which keeps what the stack holds of a
+/// level small.
 #[tactic(auto, using(crate::proofs::BindNodes::bind_nodes, crate::proofs::NominalNodes::nominal_nodes))]
 #[cycle(binding)]
 fn bind(alloc: Global, expr: &Expr, columns: &[Column]) -> Result<(Typed, Bound), NoMemory>
@@ -77,76 +79,203 @@ fn bind(alloc: Global, expr: &Expr, columns: &[Column]) -> Result<(Typed, Bound)
     ensures tree { IfOk result (λ it. it.1 ≡ bound_of expr.now columns.now) }
 {
     match expr {
-        Expr::Literal(_, value) => Ok((literal_kind(value), bind_literal(alloc, value)?)),
-        Expr::Date(_, text) => Ok((Typed::Known(Kind::Date), bind_date(alloc, text)?)),
-        Expr::Column(_, name) => Ok((
-            as_typed(column_kind(columns, name)),
-            bind_place(place_in(columns, name)),
-        )),
+        Expr::Literal(_, value) => bind_literal(alloc, value),
+        Expr::Date(_, text) => bind_date(alloc, text),
+        Expr::Column(_, name) => Ok(bind_column(columns, name)),
         Expr::Chain(first, links) => {
-            let (left, first) = bind(alloc, first.get(), columns)?;
-            let (typed, links) = bind_joints(alloc, left, links.as_slice(), columns)?;
-            Ok((typed, Bound::Chain(Boxed::new(alloc, first)?, links)))
+            let (left, first) = bind_boxed(alloc, first.get(), columns)?;
+            bind_chain(alloc, links.as_slice(), columns, left, first)
         }
         Expr::Prefixed(operand, prefixes) => {
-            let (typed, operand) = bind(alloc, operand.get(), columns)?;
-            let row = Items::from_slice(alloc, prefixes.as_slice())?;
-            let outer = prefixed_gives(typed, prefixes.as_slice());
-            Ok((
-                outer,
-                Bound::Prefixed(typed, Boxed::new(alloc, operand)?, row),
-            ))
+            bind_prefixed(alloc, operand.get(), prefixes.as_slice(), columns)
         }
-        Expr::Casts(operand, casts) => {
-            let (typed, operand) = bind(alloc, operand.get(), columns)?;
-            let row = Items::from_slice(alloc, casts.as_slice())?;
-            let outer = casts_gives(typed, casts.as_slice());
-            Ok((outer, Bound::Casts(Boxed::new(alloc, operand)?, row)))
-        }
+        Expr::Casts(operand, casts) => bind_casts(alloc, operand.get(), casts.as_slice(), columns),
         Expr::IsNull(operand, tests) => {
-            let typed = nominal(operand.get(), columns);
-            let operand = bind_as(alloc, Kind::Text, operand.get(), columns)?;
-            let row = Items::from_slice(alloc, tests.as_slice())?;
-            let outer = typed_tests(typed, tests.as_slice());
-            Ok((outer, Bound::IsNull(Boxed::new(alloc, operand)?, row)))
+            bind_is_null(alloc, operand.get(), tests.as_slice(), columns)
         }
         Expr::Between(_, negated, value, low, high) => {
             let kind = between_kind(value.get(), low.get(), high.get(), columns);
             let value = boxed_as(alloc, kind, value.get(), columns)?;
             let low = boxed_as(alloc, kind, low.get(), columns)?;
             let high = boxed_as(alloc, kind, high.get(), columns)?;
-            Ok((
-                Typed::Known(Kind::Boolean),
-                Bound::Between(*negated, value, low, high),
-            ))
+            Ok(between_bound(*negated, value, low, high))
         }
         Expr::In(_, negated, value, items) => {
             let first = nominal(value.get(), columns);
             let kind = met(nominal_items(Some(first), items.as_slice(), columns));
             let value = boxed_as(alloc, kind, value.get(), columns)?;
-            let items = bind_items(alloc, kind, items.as_slice(), columns)?;
-            Ok((
-                Typed::Known(Kind::Boolean),
-                Bound::In(*negated, value, items),
-            ))
+            bind_in(alloc, items.as_slice(), columns, kind, *negated, value)
         }
-        Expr::Coalesce(_, items) => {
-            let kind = met(nominal_items(Some(Typed::Untyped), items.as_slice(), columns));
-            let items = bind_items(alloc, kind, items.as_slice(), columns)?;
-            Ok((Typed::Known(kind), Bound::Coalesce(items)))
-        }
-        Expr::Abs(_, operand) => {
-            let (typed, operand) = bind(alloc, operand.get(), columns)?;
-            Ok((
-                typed,
-                Bound::Abs(settled(typed), Boxed::new(alloc, operand)?),
-            ))
-        }
-        Expr::Length(_, operand) => {
-            let operand = boxed_as(alloc, Kind::Text, operand.get(), columns)?;
-            Ok((Typed::Known(Kind::Integer), Bound::Length(operand)))
-        }
+        Expr::Coalesce(_, items) => bind_coalesce(alloc, items.as_slice(), columns),
+        Expr::Abs(_, operand) => bind_abs(alloc, operand.get(), columns),
+        Expr::Length(_, operand) => bind_length(alloc, operand.get(), columns),
     }
+}
+
+#[cycle(binding)]
+#[inline(never)]
+fn bind_boxed(
+    alloc: Global,
+    expr: &Expr,
+    columns: &[Column],
+) -> Result<(Typed, Boxed<Bound>), NoMemory>
+    ensures kind { IfOk result (λ it. it.0 ≡ nominal expr.now columns.now) }
+    ensures tree { IfOk result (λ it. it.1 ≡ bound_of expr.now columns.now) }
+{
+    let (typed, bound) = bind(alloc, expr, columns)?;
+    Ok((typed, Boxed::new(alloc, bound)?))
+}
+
+/// Operators in a row, whose first side is bound.
+#[cycle(binding)]
+#[inline(never)]
+fn bind_chain(
+    alloc: Global,
+    links: &[(u32, Operator, Expr)],
+    columns: &[Column],
+    left: Typed,
+    first: Boxed<Bound>,
+) -> Result<(Typed, Bound), NoMemory>
+    ensures kind { IfOk result (λ it. it.0 ≡ chain_gives left (links_nominal columns.now links.now)) }
+    ensures tree { IfOk result (λ it. it.1 ≡ Bound.Chain first (links_joints columns.now left links.now)) }
+{
+    let (typed, joints) = bind_joints(alloc, left, links, columns)?;
+    Ok((typed, Bound::Chain(first, joints)))
+}
+
+/// NOTs and signs in a row.
+#[cycle(binding)]
+#[inline(never)]
+fn bind_prefixed(
+    alloc: Global,
+    operand: &Expr,
+    prefixes: &[(u32, Prefix)],
+    columns: &[Column],
+) -> Result<(Typed, Bound), NoMemory>
+    ensures kind { IfOk result (λ it. it.0 ≡ prefixed_gives (nominal operand.now columns.now) prefixes.now) }
+    ensures tree { IfOk result (λ it. it.1 ≡ Bound.Prefixed (nominal operand.now columns.now) (bound_of operand.now columns.now) prefixes.now) }
+{
+    let (typed, operand) = bind_boxed(alloc, operand, columns)?;
+    let row = Items::from_slice(alloc, prefixes)?;
+    Ok((
+        prefixed_gives(typed, prefixes),
+        Bound::Prefixed(typed, operand, row),
+    ))
+}
+
+/// Casts in a row.
+#[cycle(binding)]
+#[inline(never)]
+fn bind_casts(
+    alloc: Global,
+    operand: &Expr,
+    casts: &[(u32, Kind)],
+    columns: &[Column],
+) -> Result<(Typed, Bound), NoMemory>
+    ensures kind { IfOk result (λ it. it.0 ≡ casts_gives (nominal operand.now columns.now) casts.now) }
+    ensures tree { IfOk result (λ it. it.1 ≡ Bound.Casts (bound_of operand.now columns.now) casts.now) }
+{
+    let (typed, operand) = bind_boxed(alloc, operand, columns)?;
+    let row = Items::from_slice(alloc, casts)?;
+    Ok((casts_gives(typed, casts), Bound::Casts(operand, row)))
+}
+
+/// IS NULL and IS NOT NULL in a row.
+#[cycle(binding)]
+#[inline(never)]
+fn bind_is_null(
+    alloc: Global,
+    operand: &Expr,
+    tests: &[(u32, bool)],
+    columns: &[Column],
+) -> Result<(Typed, Bound), NoMemory>
+    ensures kind { IfOk result (λ it. it.0 ≡ tests_kind (nominal operand.now columns.now) tests.now) }
+    ensures tree { IfOk result (λ it. it.1 ≡ Bound.IsNull (bound_as Kind.Text operand.now columns.now) tests.now) }
+{
+    let typed = nominal(operand, columns);
+    let operand = boxed_as(alloc, Kind::Text, operand, columns)?;
+    let row = Items::from_slice(alloc, tests)?;
+    Ok((typed_tests(typed, tests), Bound::IsNull(operand, row)))
+}
+
+/// BETWEEN, whose operands are bound.
+#[inline(never)]
+fn between_bound(
+    negated: bool,
+    value: Boxed<Bound>,
+    low: Boxed<Bound>,
+    high: Boxed<Bound>,
+) -> (Typed, Bound)
+    ensures kind { result.0 ≡ Typed.Known Kind.Boolean }
+    ensures tree { result.1 ≡ Bound.Between negated value low high }
+{
+    (
+        Typed::Known(Kind::Boolean),
+        Bound::Between(negated, value, low, high),
+    )
+}
+
+/// IN, whose value is bound.
+#[cycle(binding)]
+#[inline(never)]
+fn bind_in(
+    alloc: Global,
+    items: &[Expr],
+    columns: &[Column],
+    kind: Kind,
+    negated: bool,
+    value: Boxed<Bound>,
+) -> Result<(Typed, Bound), NoMemory>
+    ensures kind { IfOk result (λ it. it.0 ≡ Typed.Known Kind.Boolean) }
+    ensures tree { IfOk result (λ it. it.1 ≡ Bound.In negated value (items_as kind columns.now items.now)) }
+{
+    let items = bind_items(alloc, kind, items, columns)?;
+    Ok((
+        Typed::Known(Kind::Boolean),
+        Bound::In(negated, value, items),
+    ))
+}
+
+/// COALESCE.
+#[cycle(binding)]
+#[inline(never)]
+fn bind_coalesce(
+    alloc: Global,
+    items: &[Expr],
+    columns: &[Column],
+) -> Result<(Typed, Bound), NoMemory>
+    ensures kind { IfOk result (λ it. it.0 ≡ Typed.Known (met (shared_by (Some Typed.Untyped) (items_nominal columns.now items.now)))) }
+    ensures tree { IfOk result (λ it. it.1 ≡ Bound.Coalesce (items_as (met (shared_by (Some Typed.Untyped) (items_nominal columns.now items.now))) columns.now items.now)) }
+{
+    let kind = met(nominal_items(Some(Typed::Untyped), items, columns));
+    let items = bind_items(alloc, kind, items, columns)?;
+    Ok((Typed::Known(kind), Bound::Coalesce(items)))
+}
+
+/// abs.
+#[cycle(binding)]
+#[inline(never)]
+fn bind_abs(alloc: Global, operand: &Expr, columns: &[Column]) -> Result<(Typed, Bound), NoMemory>
+    ensures kind { IfOk result (λ it. it.0 ≡ nominal operand.now columns.now) }
+    ensures tree { IfOk result (λ it. it.1 ≡ Bound.Abs (settled (nominal operand.now columns.now)) (bound_of operand.now columns.now)) }
+{
+    let (typed, operand) = bind_boxed(alloc, operand, columns)?;
+    Ok((typed, Bound::Abs(settled(typed), operand)))
+}
+
+/// length.
+#[cycle(binding)]
+#[inline(never)]
+fn bind_length(
+    alloc: Global,
+    operand: &Expr,
+    columns: &[Column],
+) -> Result<(Typed, Bound), NoMemory>
+    ensures kind { IfOk result (λ it. it.0 ≡ Typed.Known Kind.Integer) }
+    ensures tree { IfOk result (λ it. it.1 ≡ Bound.Length (bound_as Kind.Text operand.now columns.now)) }
+{
+    let operand = boxed_as(alloc, Kind::Text, operand, columns)?;
+    Ok((Typed::Known(Kind::Integer), Bound::Length(operand)))
 }
 
 /// An operand's tree, read as the kind.
@@ -159,6 +288,7 @@ fn bind_as(alloc: Global, kind: Kind, expr: &Expr, columns: &[Column]) -> Result
 }
 
 #[cycle(binding)]
+#[inline(never)]
 fn boxed_as(
     alloc: Global,
     kind: Kind,
@@ -277,24 +407,42 @@ fn read_held(alloc: Global, kind: Kind, literal: Held<'_>) -> Result<Bound, NoMe
 }
 
 /// A literal.
-fn bind_literal(alloc: Global, value: &Value) -> Result<Bound, NoMemory>
-    ensures { IfOk result (λ bound. bound ≡ bound_outcome (literal_value value.now)) }
+#[inline(never)]
+fn bind_literal(alloc: Global, value: &Value) -> Result<(Typed, Bound), NoMemory>
+    ensures kind { IfOk result (λ it. it.0 ≡ literal_kind value.now) }
+    ensures tree { IfOk result (λ it. it.1 ≡ bound_outcome (literal_value value.now)) }
 {
+    let kind = literal_kind(value);
     match literal_value(value) {
-        Ok(literal) => Ok(Bound::Fixed(literal.into_value(alloc)?)),
-        Err(fault) => Ok(Bound::Faulty(fault)),
+        Ok(literal) => Ok((kind, Bound::Fixed(literal.into_value(alloc)?))),
+        Err(fault) => Ok((kind, Bound::Faulty(fault))),
     }
 }
 
 /// DATE and a string.
-fn bind_date(alloc: Global, text: &Txt) -> Result<Bound, NoMemory>
-    ensures { IfOk result (λ bound. bound ≡ bound_outcome (converted (read_as text.now Kind.Date))) }
+#[inline(never)]
+fn bind_date(alloc: Global, text: &Txt) -> Result<(Typed, Bound), NoMemory>
+    ensures kind { IfOk result (λ it. it.0 ≡ Typed.Known Kind.Date) }
+    ensures tree { IfOk result (λ it. it.1 ≡ bound_outcome (converted (read_as text.now Kind.Date))) }
 {
+    let kind = Typed::Known(Kind::Date);
     match read_text(alloc, text, Kind::Date) {
-        Ok(day) => Ok(Bound::Fixed(day)),
-        Err(Cant::Why(fault)) => Ok(Bound::Faulty(fault)),
+        Ok(day) => Ok((kind, Bound::Fixed(day))),
+        Err(Cant::Why(fault)) => Ok((kind, Bound::Faulty(fault))),
         Err(Cant::NoMemory) => Err(NoMemory),
     }
+}
+
+/// A column's name.
+#[inline(never)]
+fn bind_column(columns: &[Column], name: &Name) -> (Typed, Bound)
+    ensures kind { result.0 ≡ as_typed (column_kind columns.now name.now) }
+    ensures tree { result.1 ≡ bound_place (place_from 0 columns.now name.now) }
+{
+    (
+        as_typed(column_kind(columns, name)),
+        bind_place(place_in(columns, name)),
+    )
 }
 
 /// The place of the first column of the name.
