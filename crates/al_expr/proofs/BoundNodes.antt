@@ -15,8 +15,8 @@ use Rattle.al_expr.specs.declared.kinds.Typed.TheVariants as types
 use Rattle.al_expr.specs.declared.tree.Prefix.{Prefix}
 use Rattle.al_expr.specs.Then.{◌>>=◌}
 use Rattle.al_expr.specs.Values.{Outcome, converted, read_in, denied_if, absolute, measured}
-use Rattle.al_expr.specs.Evaluation.{prefixed_value, casts_value, tests_value}
-use Rattle.al_expr.specs.Bound.{followed, placed, joints_value, within_ends, among, first_of, bound_step, bound_value, links_bound, items_bound}
+use Rattle.al_expr.specs.Evaluation.{followed, prefixed_value, casts_value, tests_value}
+use Rattle.al_expr.specs.Bound.{placed, joints_value, within_ends, among, first_of, bound_step, bound_value, links_bound, items_bound}
 
 pub bound_fixed : (value : Value) (row : List Value) →
     bound_value (b.Fixed value) row ≡ Ok value

@@ -20,10 +20,6 @@ use Rattle.al_expr.specs.Then.{◌>>=◌}
 use Rattle.al_expr.specs.Values.{Outcome, converted, read_in, decides, operated, related, either, denied_if, absolute, measured}
 use Rattle.al_expr.specs.Evaluation.{prefixed_value, casts_value, tests_value, below_high, or_more, unless_null}
 
--- what comes of a value, where there is one
-abbrev pub followed : Outcome → (Value → Outcome) → Outcome
-followed value step = value >>= step
-
 -- the value at a place of a row, or Null
 abbrev pub or_null : Option Value → Value
 or_null (Some value) = value

@@ -157,3 +157,7 @@ items_sides columns row items = map (λ item. (nominal item columns, value_of it
 -- a value with its kind
 abbrev pub known : Typed → Outcome → Result (Typed × Value) EvalFault
 known typed outcome = outcome >>= (λ value. Ok (typed, value))
+
+-- what comes of a value, where there is one
+abbrev pub followed : Outcome → (Value → Outcome) → Outcome
+followed value step = value >>= step

@@ -1,8 +1,8 @@
 ghost use Rattle.std.specs.Prelude.{◌≡◌, false, Ok};
 ghost use Rattle.al_values.specs.Convert.{assigned};
 ghost use Rattle.al_values.specs.Gives.{GivesUnlessNoMemory};
-ghost use Rattle.al_expr.specs.Bound.{followed, placed, joint_value, joints_value, among, first_of, bound_value, bound_truth, links_bound, items_bound};
-ghost use Rattle.al_expr.specs.Evaluation.{below_high, prefixed_value, casts_value, tests_value};
+ghost use Rattle.al_expr.specs.Bound.{placed, joint_value, joints_value, among, first_of, bound_value, bound_truth, links_bound, items_bound};
+ghost use Rattle.al_expr.specs.Evaluation.{followed, below_high, prefixed_value, casts_value, tests_value};
 ghost use Rattle.al_expr.specs.Values.{related, denied_if, absolute, measured, read_in, converted};
 
 use crate::arithmetic::absolute;
@@ -245,6 +245,7 @@ fn valued_between<'a>(
 
 /// BETWEEN, whose value and lower end are evaluated.
 #[cycle(bound_valuing)]
+#[inline(never)]
 fn valued_up_to<'a>(
     alloc: Global,
     value: Held<'a>,

@@ -1,10 +1,12 @@
-ghost use Rattle.std.specs.Prelude.{◌≡◌, false};
+ghost use Rattle.std.specs.Prelude.{◌≡◌, false, Some, Ok};
 ghost use Rattle.al_values.specs.Gives.{GivesUnlessNoMemory};
+ghost use Rattle.al_values.specs.Reading.{read_as};
 ghost use Rattle.al_expr.specs.Columns.{column_kind, column_value, first_value, later_values};
-ghost use Rattle.al_expr.specs.Kinds.{common, common_with};
-ghost use Rattle.al_expr.specs.Nominal.{nominal, met, as_typed, chain_gives, prefixed_gives, casts_gives, operator_gives, links_nominal};
-ghost use Rattle.al_expr.specs.Values.{read_in, operand_kind, related};
-ghost use Rattle.al_expr.specs.Evaluation.{value_of, known, sides_value, operator_value, chain_value, prefixed_value, casts_value, tests_value, side_value, below_high, in_value, coalesce_value, links_sides, items_sides};
+ghost use Rattle.al_expr.specs.Kinds.{common, common_with, settled};
+ghost use Rattle.al_expr.specs.Nominal.{nominal, met, shared_by, items_nominal, as_typed, chain_gives, prefixed_gives, casts_gives, operator_gives, links_nominal};
+ghost use Rattle.al_expr.specs.Typing.{literal_kind, tests_kind};
+ghost use Rattle.al_expr.specs.Values.{read_in, operand_kind, related, converted, literal_value, absolute, measured};
+ghost use Rattle.al_expr.specs.Evaluation.{value_of, known, followed, sides_value, operator_value, chain_value, prefixed_value, casts_value, tests_value, side_value, below_high, in_value, coalesce_value, links_sides, items_sides};
 
 use crate::arithmetic::{absolute, literal_value};
 use crate::held::Held;
@@ -16,7 +18,7 @@ use crate::texts::{cast_to, measured, operated, prefix_value, read_in, read_text
 use crate::typing::{literal_kind, typed_tests};
 use crate::values::{both, decides, denied_if, either, is_null, operand_kind, related, tested};
 use crate::{Column, Comparison, EvalFault, Expr, Operator, Prefix, Typed};
-use al_values::{Cant, Kind, Name, Value};
+use al_values::{Cant, Kind, Name, Txt, Value};
 use std::alloc::Global;
 
 /// A value with its kind.
@@ -31,14 +33,8 @@ pub(crate) fn valued<'a>(
     ensures { GivesUnlessNoMemory result (known (nominal expr.now columns.now) (value_of expr.now columns.now row.now)) }
 {
     match expr {
-        Expr::Literal(_, value) => {
-            let written = literal_value(value).map_err(Cant::Why)?;
-            Ok((literal_kind(value), written))
-        }
-        Expr::Date(_, text) => {
-            let day = read_text(alloc, text, Kind::Date)?;
-            Ok((Typed::Known(Kind::Date), Held::own(day)))
-        }
+        Expr::Literal(_, value) => valued_literal(value),
+        Expr::Date(_, text) => valued_date(alloc, text),
         Expr::Column(_, name) => Ok(column_found(columns, row, name)),
         Expr::Chain(first, links) => {
             let (typed, left) = valued(alloc, first.get(), columns, row)?;
@@ -53,12 +49,7 @@ pub(crate) fn valued<'a>(
             valued_casts(alloc, typed, value, casts.as_slice())
         }
         Expr::IsNull(operand, tests) => {
-            let (typed, value) = valued(alloc, operand.get(), columns, row)?;
-            let value = read_in(alloc, Kind::Text, typed, value)?;
-            Ok((
-                typed_tests(typed, tests.as_slice()),
-                valued_tests(value, tests.as_slice()),
-            ))
+            valued_is_null(alloc, operand.get(), tests.as_slice(), columns, row)
         }
         Expr::Between(_, negated, value, low, high) => {
             let kind = between_kind(value.get(), low.get(), high.get(), columns);
@@ -80,25 +71,98 @@ pub(crate) fn valued<'a>(
                 Held::own(denied_if(*negated, truth)),
             ))
         }
-        Expr::Coalesce(_, items) => {
-            let kind = met(nominal_items(Some(Typed::Untyped), items.as_slice(), columns));
-            let value = valued_coalesce(alloc, kind, items.as_slice(), columns, row)?;
-            Ok((Typed::Known(kind), value))
-        }
-        Expr::Abs(_, operand) => {
-            let (typed, value) = valued(alloc, operand.get(), columns, row)?;
-            match absolute(settled(typed), value.get()) {
-                Ok(number) => Ok((typed, Held::own(number))),
-                Err(fault) => Err(Cant::Why(fault)),
-            }
-        }
-        Expr::Length(_, operand) => {
-            let text = valued_as(alloc, Kind::Text, operand.get(), columns, row)?;
-            match measured(text.get()) {
-                Ok(count) => Ok((Typed::Known(Kind::Integer), Held::own(count))),
-                Err(fault) => Err(Cant::Why(fault)),
-            }
-        }
+        Expr::Coalesce(_, items) => valued_first(alloc, items.as_slice(), columns, row),
+        Expr::Abs(_, operand) => valued_abs(alloc, operand.get(), columns, row),
+        Expr::Length(_, operand) => valued_length(alloc, operand.get(), columns, row),
+    }
+}
+
+#[inline(never)]
+fn valued_literal<'a>(value: &'a Value) -> Result<(Typed, Held<'a>), Cant<EvalFault>>
+    ensures { GivesUnlessNoMemory result (known (literal_kind value.now) (literal_value value.now)) }
+{
+    let written = literal_value(value).map_err(Cant::Why)?;
+    Ok((literal_kind(value), written))
+}
+
+#[inline(never)]
+fn valued_date<'a>(alloc: Global, text: &Txt) -> Result<(Typed, Held<'a>), Cant<EvalFault>>
+    ensures { GivesUnlessNoMemory result (known (Typed.Known Kind.Date) (converted (read_as text.now Kind.Date))) }
+{
+    let day = read_text(alloc, text, Kind::Date)?;
+    Ok((Typed::Known(Kind::Date), Held::own(day)))
+}
+
+#[cycle(valuing)]
+#[inline(never)]
+fn valued_is_null<'a>(
+    alloc: Global,
+    operand: &'a Expr,
+    tests: &[(u32, bool)],
+    columns: &[Column],
+    row: &'a [Value],
+) -> Result<(Typed, Held<'a>), Cant<EvalFault>>
+    ensures { GivesUnlessNoMemory result
+        (known (tests_kind (nominal operand.now columns.now) tests.now)
+        (followed (side_value Kind.Text (nominal operand.now columns.now, value_of operand.now columns.now row.now)) (λ value. Ok (tests_value value tests.now)))) }
+{
+    let (typed, value) = valued(alloc, operand, columns, row)?;
+    let value = read_in(alloc, Kind::Text, typed, value)?;
+    Ok((typed_tests(typed, tests), valued_tests(value, tests)))
+}
+
+#[cycle(valuing)]
+#[inline(never)]
+fn valued_first<'a>(
+    alloc: Global,
+    items: &'a [Expr],
+    columns: &[Column],
+    row: &'a [Value],
+) -> Result<(Typed, Held<'a>), Cant<EvalFault>>
+    ensures { GivesUnlessNoMemory result
+        (known (Typed.Known (met (shared_by (Some Typed.Untyped) (items_nominal columns.now items.now))))
+        (coalesce_value (met (shared_by (Some Typed.Untyped) (items_nominal columns.now items.now))) (items_sides columns.now row.now items.now))) }
+{
+    let kind = met(nominal_items(Some(Typed::Untyped), items, columns));
+    let value = valued_coalesce(alloc, kind, items, columns, row)?;
+    Ok((Typed::Known(kind), value))
+}
+
+#[cycle(valuing)]
+#[inline(never)]
+fn valued_abs<'a>(
+    alloc: Global,
+    operand: &'a Expr,
+    columns: &[Column],
+    row: &'a [Value],
+) -> Result<(Typed, Held<'a>), Cant<EvalFault>>
+    ensures { GivesUnlessNoMemory result
+        (known (nominal operand.now columns.now)
+        (followed (value_of operand.now columns.now row.now) (λ value. absolute (settled (nominal operand.now columns.now)) value))) }
+{
+    let (typed, value) = valued(alloc, operand, columns, row)?;
+    match absolute(settled(typed), value.get()) {
+        Ok(number) => Ok((typed, Held::own(number))),
+        Err(fault) => Err(Cant::Why(fault)),
+    }
+}
+
+#[cycle(valuing)]
+#[inline(never)]
+fn valued_length<'a>(
+    alloc: Global,
+    operand: &'a Expr,
+    columns: &[Column],
+    row: &'a [Value],
+) -> Result<(Typed, Held<'a>), Cant<EvalFault>>
+    ensures { GivesUnlessNoMemory result
+        (known (Typed.Known Kind.Integer)
+        (followed (side_value Kind.Text (nominal operand.now columns.now, value_of operand.now columns.now row.now)) measured)) }
+{
+    let text = valued_as(alloc, Kind::Text, operand, columns, row)?;
+    match measured(text.get()) {
+        Ok(count) => Ok((Typed::Known(Kind::Integer), Held::own(count))),
+        Err(fault) => Err(Cant::Why(fault)),
     }
 }
 

@@ -1,7 +1,8 @@
 use Rattle.std.proofs.Common.{rules, ◌≡◌, false, Ok, sym, subst}
 use Rattle.al_values.specs.declared.scalar.Value.TheVariants as values
 use Rattle.al_values.specs.Gives.{GivesUnlessNoMemory}
-use Rattle.al_expr.specs.Bound.{followed, among, bound_value, items_bound}
+use Rattle.al_expr.specs.Evaluation.{followed}
+use Rattle.al_expr.specs.Bound.{among, bound_value, items_bound}
 use Rattle.al_expr.specs.Values.{Outcome, denied_if}
 use Rattle.al_expr.proofs.BoundNodes.{bound_within}
 use Rattle.al_expr.proofs.bound_rows.+bound_valuing.Goals as goal

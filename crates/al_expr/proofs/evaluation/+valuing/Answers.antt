@@ -64,8 +64,8 @@ valued-returns-in_err-truth-in-Between t c =
     c.in-Between.is (search rules) (search rules) (search rules)
     ∙ ap (λ x. x >>= (λ truth. Ok (denied_if c.in-Between.negated truth))) here))
 
-pub valued-returns-in-Between : goal.valued-returns-in-Between
-valued-returns-in-Between t c =
+pub valued-returns-in_ok-truth-in-Between : goal.valued-returns-in_ok-truth-in-Between
+valued-returns-in_ok-truth-in-Between t c =
     let kind : nominal c.args.expr.now c.args.columns.now ≡ types.Known kinds.Boolean =
     ap (λ x. nominal x c.args.columns.now) c.in-Between.is
     ∙ nominal_between c.in-Between.field-0 c.in-Between.negated c.in-Between.value c.in-Between.low c.in-Between.high c.args.columns.now in
