@@ -235,7 +235,11 @@ fn one_tree(rt: HostRuntime) -> Result<(), Fail> {
 }
 
 fn place(alloc: Global, text: &str) -> Result<Option<u32>, Cant<SqlFault>> {
-    Ok(first_output(&script_of(alloc, text)?).map(place_of))
+    let script = script_of(alloc, text)?;
+    match first_output(&script) {
+        Some(expr) => Ok(Some(place_of(expr))),
+        None => Ok(None),
+    }
 }
 
 #[test]

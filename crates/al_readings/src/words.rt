@@ -29,11 +29,11 @@ fn left_out(rt: HostRuntime) -> Result<(), Fail> {
         rule savepoint schema sequence serializable temp temporary transaction trigger truncate union vacuum view with \
         numeric decimal real double timestamp";
     let wanted = [NotInProfile(12), Good, Good, Good, Syntax(12)];
-    let mut count = 0;
+    let mut count: u32 = 0;
     for word in words.split_whitespace() {
         let found = told_of_word(rt.alloc(), word)?;
         assert_eq!(rt; found, wanted, "{word}");
-        count += 1;
+        count = count.saturating_add(1);
     }
     assert_eq!(rt; count, 49);
     Ok(())
@@ -45,11 +45,11 @@ fn reserved(rt: HostRuntime) -> Result<(), Fail> {
         "and as between cast check column constraint create default false for foreign from in into is not null \
         only or order primary references select table to true unique using where";
     let wanted = (Syntax(11), Good, Syntax(12));
-    let mut count = 0;
+    let mut count: u32 = 0;
     for word in words.split_whitespace() {
         let found = told_of_word(rt.alloc(), word)?;
         assert_eq!(rt; (found[2], found[3], found[0]), wanted, "{word}");
-        count += 1;
+        count = count.saturating_add(1);
     }
     assert_eq!(rt; count, 30);
     Ok(())
