@@ -1,7 +1,8 @@
-use crate::reading::{brief, said, script_of};
+use crate::reading::{brief, say, script_of};
 use al_statements::{Change, Script, SqlFault, Statement};
 use al_values::{Cant, Txt};
 use std::alloc::Global;
+use std::process::Abort;
 use std::test::Fail;
 
 fn change(script: &Script) -> Option<&Change> {
@@ -21,6 +22,17 @@ fn changed(alloc: Global, text: &str) -> Result<Txt, Cant<SqlFault>> {
     Ok(brief(alloc, printed)?)
 }
 
+// Tests that texts change tables so.
+fn change_so(rt: &impl Abort, alloc: Global, rows: &[(&str, &str)]) -> Result<(), Fail> {
+    for (text, wanted) in rows {
+        let text = Txt::new(alloc, text)?;
+        let found = changed(alloc, text.as_str())?;
+        let wanted = Txt::new(alloc, wanted)?;
+        assert_eq!(rt; found, wanted, "{text}");
+    }
+    Ok(())
+}
+
 #[test]
 fn whole(rt: HostRuntime) -> Result<(), Fail> {
     let rows = [
@@ -37,11 +49,7 @@ fn whole(rt: HostRuntime) -> Result<(), Fail> {
             "[AlterTable(Alter target: t, change: Subs([DropColumn(a), DropColumn(b)])), Commit]",
         ),
     ];
-    for (text, wanted) in rows {
-        let found = said(rt.alloc(), text)?;
-        assert_eq!(rt; found.as_str(), wanted, "{text:?}");
-    }
-    Ok(())
+    say(&rt, rt.alloc(), &rows)
 }
 
 #[test]
@@ -84,11 +92,7 @@ fn additions(rt: HostRuntime) -> Result<(), Fail> {
             "Subs([AddConstraint(Constraint name: Some(f), rule: ForeignKey([a], p, Some([b])), true)])",
         ),
     ];
-    for (text, wanted) in rows {
-        let found = changed(rt.alloc(), text)?;
-        assert_eq!(rt; found.as_str(), wanted, "{text:?}");
-    }
-    Ok(())
+    change_so(&rt, rt.alloc(), &rows)
 }
 
 #[test]
@@ -131,11 +135,7 @@ fn alterations(rt: HostRuntime) -> Result<(), Fail> {
             "Subs([SetStatistics(a, -70)])",
         ),
     ];
-    for (text, wanted) in rows {
-        let found = changed(rt.alloc(), text)?;
-        assert_eq!(rt; found.as_str(), wanted, "{text:?}");
-    }
-    Ok(())
+    change_so(&rt, rt.alloc(), &rows)
 }
 
 #[test]
@@ -170,9 +170,5 @@ fn other_subcommands(rt: HostRuntime) -> Result<(), Fail> {
             "Rename(Constraint(c, d))",
         ),
     ];
-    for (text, wanted) in rows {
-        let found = changed(rt.alloc(), text)?;
-        assert_eq!(rt; found.as_str(), wanted, "{text:?}");
-    }
-    Ok(())
+    change_so(&rt, rt.alloc(), &rows)
 }

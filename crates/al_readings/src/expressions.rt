@@ -2,7 +2,19 @@ use crate::evaluated::{value, value_of, value_on, value_on_texts};
 use al_statements::SqlFault;
 use al_values::{Cant, Kind, Txt};
 use std::alloc::Global;
+use std::process::Abort;
 use std::test::Fail;
+
+// Tests that expressions give these.
+fn give(rt: &impl Abort, alloc: Global, rows: &[(&str, &str)]) -> Result<(), Fail> {
+    for (text, wanted) in rows {
+        let text = Txt::new(alloc, text)?;
+        let found = value(alloc, text.as_str())?;
+        let wanted = Txt::new(alloc, wanted)?;
+        assert_eq!(rt; found, wanted, "{text}");
+    }
+    Ok(())
+}
 
 #[test]
 fn logic(rt: HostRuntime) -> Result<(), Fail> {
@@ -18,10 +30,8 @@ fn logic(rt: HostRuntime) -> Result<(), Fail> {
         ("NULL", "NULL", "null", "null"),
     ];
     for (a, b, both, either) in rows {
-        let found = joined(rt.alloc(), a, "AND", b)?;
-        assert_eq!(rt; found.as_str(), both, "{a} AND {b}");
-        let found = joined(rt.alloc(), a, "OR", b)?;
-        assert_eq!(rt; found.as_str(), either, "{a} OR {b}");
+        joins(&rt, rt.alloc(), [a, "AND", b], both)?;
+        joins(&rt, rt.alloc(), [a, "OR", b], either)?;
     }
     Ok(())
 }
@@ -30,6 +40,15 @@ fn logic(rt: HostRuntime) -> Result<(), Fail> {
 fn joined(alloc: Global, a: &str, operator: &str, b: &str) -> Result<Txt, Cant<SqlFault>> {
     let text = format!(in alloc; "SELECT {a} {operator} {b}")?;
     value_of(alloc, &Txt::from_string(text))
+}
+
+// Tests that two operands and what stands between them give this.
+fn joins(rt: &impl Abort, alloc: Global, parts: [&str; 3], wanted: &str) -> Result<(), Fail> {
+    let wanted = Txt::new(alloc, wanted)?;
+    let found = joined(alloc, parts[0], parts[1], parts[2])?;
+    let middle = Txt::new(alloc, parts[1])?;
+    assert_eq!(rt; found, wanted, "{middle}");
+    Ok(())
 }
 
 #[test]
@@ -45,11 +64,7 @@ fn denials_and_tests_of_null(rt: HostRuntime) -> Result<(), Fail> {
         ("SELECT FALSE IS NOT NULL", "t"),
         ("SELECT NULL IS NOT NULL", "f"),
     ];
-    for (text, wanted) in rows {
-        let found = value(rt.alloc(), text)?;
-        assert_eq!(rt; found.as_str(), wanted, "{text}");
-    }
-    Ok(())
+    give(&rt, rt.alloc(), &rows)
 }
 
 #[test]
@@ -121,11 +136,9 @@ fn comparisons(rt: HostRuntime) -> Result<(), Fail> {
     ];
     for (operator, below, same, above) in rows {
         for (a, wanted) in [("1", below), ("2", same), ("3", above), ("NULL", "null")] {
-            let found = joined(rt.alloc(), a, operator, "2")?;
-            assert_eq!(rt; found.as_str(), wanted, "{a} {operator} 2");
+            joins(&rt, rt.alloc(), [a, operator, "2"], wanted)?;
         }
-        let found = joined(rt.alloc(), "2", operator, "NULL")?;
-        assert_eq!(rt; found.as_str(), "null", "2 {operator} NULL");
+        joins(&rt, rt.alloc(), ["2", operator, "NULL"], "null")?;
     }
     Ok(())
 }
@@ -133,24 +146,18 @@ fn comparisons(rt: HostRuntime) -> Result<(), Fail> {
 #[test]
 fn nulls_in_arithmetic_and_texts(rt: HostRuntime) -> Result<(), Fail> {
     for operator in ["+", "-", "*", "/", "%"] {
-        let found = joined(rt.alloc(), "NULL", operator, "0")?;
-        assert_eq!(rt; found.as_str(), "null", "NULL {operator} 0");
-        let found = joined(rt.alloc(), "0", operator, "NULL")?;
-        assert_eq!(rt; found.as_str(), "null", "0 {operator} NULL");
+        joins(&rt, rt.alloc(), ["NULL", operator, "0"], "null")?;
+        joins(&rt, rt.alloc(), ["0", operator, "NULL"], "null")?;
     }
-    let texts = [
-        "SELECT 'a' || NULL",
-        "SELECT length(NULL)",
-        "SELECT -(1 + NULL)",
-        "SELECT abs(1 + NULL)",
-        "SELECT NULL::integer::boolean",
-        "SELECT coalesce(NULL, NULL)",
+    let rows = [
+        ("SELECT 'a' || NULL", "null"),
+        ("SELECT length(NULL)", "null"),
+        ("SELECT -(1 + NULL)", "null"),
+        ("SELECT abs(1 + NULL)", "null"),
+        ("SELECT NULL::integer::boolean", "null"),
+        ("SELECT coalesce(NULL, NULL)", "null"),
     ];
-    for text in texts {
-        let found = value(rt.alloc(), text)?;
-        assert_eq!(rt; found.as_str(), "null", "{text}");
-    }
-    Ok(())
+    give(&rt, rt.alloc(), &rows)
 }
 
 #[test]
@@ -171,10 +178,8 @@ fn lists_and_ranges(rt: HostRuntime) -> Result<(), Fail> {
         ("NULL", "BETWEEN 1 AND 4", "null", "null"),
     ];
     for (a, test, wanted, denied) in rows {
-        let found = joined(rt.alloc(), a, "", test)?;
-        assert_eq!(rt; found.as_str(), wanted, "{a} {test}");
-        let found = joined(rt.alloc(), a, "NOT", test)?;
-        assert_eq!(rt; found.as_str(), denied, "{a} NOT {test}");
+        joins(&rt, rt.alloc(), [a, "", test], wanted)?;
+        joins(&rt, rt.alloc(), [a, "NOT", test], denied)?;
     }
     Ok(())
 }
@@ -193,11 +198,7 @@ fn faults_and_stops(rt: HostRuntime) -> Result<(), Fail> {
         ("SELECT 1 BETWEEN 2 AND 1 / 0", "f"),
         ("SELECT NULL + 1 / 0", "DivZero"),
     ];
-    for (text, wanted) in rows {
-        let found = value(rt.alloc(), text)?;
-        assert_eq!(rt; found.as_str(), wanted, "{text}");
-    }
-    Ok(())
+    give(&rt, rt.alloc(), &rows)
 }
 
 #[test]
@@ -215,10 +216,7 @@ fn strings_take_the_kind_of_the_other_side(rt: HostRuntime) -> Result<(), Fail> 
         ("SELECT coalesce('07', 1)", "7"),
         ("SELECT coalesce('x', 1)", "Cast(BadText)"),
     ];
-    for (text, wanted) in rows {
-        let found = value(rt.alloc(), text)?;
-        assert_eq!(rt; found.as_str(), wanted, "{text}");
-    }
+    give(&rt, rt.alloc(), &rows)?;
     let found = value_on_texts(rt.alloc(), "SELECT a = 'longer text'", "short", "")?;
     assert_eq!(rt; found.as_str(), "f");
     let small = (Kind::Smallint, Kind::Smallint);
@@ -241,11 +239,7 @@ fn dates(rt: HostRuntime) -> Result<(), Fail> {
         ("SELECT 1 + DATE '1999-12-31'", "2000-01-01"),
         ("SELECT DATE '2024-03-01' - DATE '2024-02-28'", "2"),
     ];
-    for (text, wanted) in rows {
-        let found = value(rt.alloc(), text)?;
-        assert_eq!(rt; found.as_str(), wanted, "{text}");
-    }
-    Ok(())
+    give(&rt, rt.alloc(), &rows)
 }
 
 #[test]
@@ -264,11 +258,7 @@ fn casts(rt: HostRuntime) -> Result<(), Fail> {
         ("SELECT -32768::smallint", "Cast(OutOfRange)"),
         ("SELECT (-32768)::smallint", "-32768"),
     ];
-    for (text, wanted) in rows {
-        let found = value(rt.alloc(), text)?;
-        assert_eq!(rt; found.as_str(), wanted, "{text}");
-    }
-    Ok(())
+    give(&rt, rt.alloc(), &rows)
 }
 
 #[test]
@@ -292,9 +282,5 @@ fn precedences(rt: HostRuntime) -> Result<(), Fail> {
         ("SELECT '1' || '2' IN ('12')", "t"),
         ("SELECT 1 IN (2) = FALSE", "t"),
     ];
-    for (text, wanted) in rows {
-        let found = value(rt.alloc(), text)?;
-        assert_eq!(rt; found.as_str(), wanted, "{text}");
-    }
-    Ok(())
+    give(&rt, rt.alloc(), &rows)
 }

@@ -1,5 +1,5 @@
 use crate::reading::Told::{Good, NotInProfile, Syntax};
-use crate::reading::told_of;
+use crate::reading::are_told;
 use std::test::Fail;
 
 #[test]
@@ -33,11 +33,7 @@ fn tokens(rt: HostRuntime) -> Result<(), Fail> {
         ("SELECT 1 = = 2", Syntax(11)),
         ("SELECT 1 ' ' '", Syntax(9)),
     ];
-    for (text, wanted) in rows {
-        let found = told_of(rt.alloc(), text)?;
-        assert_eq!(rt; found, wanted, "{text:?}");
-    }
-    Ok(())
+    are_told(&rt, rt.alloc(), &rows)
 }
 
 #[test]
@@ -60,11 +56,7 @@ fn quotes_left_open(rt: HostRuntime) -> Result<(), Fail> {
         ("SELECT ) \"abc", Syntax(7)),
         ("SELECT 1.5 'abc", NotInProfile(7)),
     ];
-    for (text, wanted) in rows {
-        let found = told_of(rt.alloc(), text)?;
-        assert_eq!(rt; found, wanted, "{text:?}");
-    }
-    Ok(())
+    are_told(&rt, rt.alloc(), &rows)
 }
 
 #[test]
@@ -88,11 +80,7 @@ fn comments(rt: HostRuntime) -> Result<(), Fail> {
         ("/* a */ COMMIT", Syntax(0)),
         ("COMMIT; */", Syntax(8)),
     ];
-    for (text, wanted) in rows {
-        let found = told_of(rt.alloc(), text)?;
-        assert_eq!(rt; found, wanted, "{text:?}");
-    }
-    Ok(())
+    are_told(&rt, rt.alloc(), &rows)
 }
 
 #[test]
@@ -135,11 +123,7 @@ fn scripts(rt: HostRuntime) -> Result<(), Fail> {
         ("WITH a AS (SELECT 1) SELECT 2", NotInProfile(0)),
         ("VALUES (1)", Syntax(0)),
     ];
-    for (text, wanted) in rows {
-        let found = told_of(rt.alloc(), text)?;
-        assert_eq!(rt; found, wanted, "{text:?}");
-    }
-    Ok(())
+    are_told(&rt, rt.alloc(), &rows)
 }
 
 #[test]
@@ -169,11 +153,7 @@ fn locks_and_drops(rt: HostRuntime) -> Result<(), Fail> {
         ("DROP TABLE a(b)", Syntax(12)),
         ("DROP TABLE IF EXISTS", Syntax(20)),
     ];
-    for (text, wanted) in rows {
-        let found = told_of(rt.alloc(), text)?;
-        assert_eq!(rt; found, wanted, "{text:?}");
-    }
-    Ok(())
+    are_told(&rt, rt.alloc(), &rows)
 }
 
 #[test]
@@ -230,9 +210,5 @@ fn definitions(rt: HostRuntime) -> Result<(), Fail> {
         ("CREATE TABLE t () WITH (fillfactor = 70)", NotInProfile(18)),
         ("CREATE TABLE t AS SELECT 1", Syntax(15)),
     ];
-    for (text, wanted) in rows {
-        let found = told_of(rt.alloc(), text)?;
-        assert_eq!(rt; found, wanted, "{text:?}");
-    }
-    Ok(())
+    are_told(&rt, rt.alloc(), &rows)
 }

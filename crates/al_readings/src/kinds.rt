@@ -3,6 +3,7 @@ use al_expr::{TypeFault, Typed};
 use al_statements::SqlFault;
 use al_values::{Cant, Kind, Txt};
 use std::alloc::Global;
+use std::process::Abort;
 use std::test::Fail;
 
 // The kind of an expression.
@@ -172,6 +173,16 @@ fn names(rt: HostRuntime) -> Result<(), Fail> {
     Ok(())
 }
 
+// Tests that expressions have these kinds where the columns `a` and `b` are integers.
+fn have_kinds(rt: &impl Abort, alloc: Global, rows: &[(&str, Found)]) -> Result<(), Fail> {
+    for (text, wanted) in rows {
+        let text = Txt::new(alloc, text)?;
+        let found = found_on(alloc, text.as_str(), Kind::Integer, Kind::Integer)?;
+        assert_eq!(rt; found, *wanted, "{text}");
+    }
+    Ok(())
+}
+
 #[test]
 fn without_columns(rt: HostRuntime) -> Result<(), Fail> {
     let rows = [
@@ -200,11 +211,7 @@ fn without_columns(rt: HostRuntime) -> Result<(), Fail> {
         ("SELECT 1 IS NULL", Found::Known(Kind::Boolean)),
         ("SELECT CAST(1 AS date)", Found::WrongAt(7)),
     ];
-    for (text, wanted) in rows {
-        let found = found_on(rt.alloc(), text, Kind::Integer, Kind::Integer)?;
-        assert_eq!(rt; found, wanted, "{text}");
-    }
-    Ok(())
+    have_kinds(&rt, rt.alloc(), &rows)
 }
 
 #[test]
@@ -216,9 +223,5 @@ fn first_fault_in_reading_order(rt: HostRuntime) -> Result<(), Fail> {
         ("SELECT a + zz", Found::NoColumnAt(11)),
         ("SELECT a + \"A\"", Found::NoColumnAt(11)),
     ];
-    for (text, wanted) in rows {
-        let found = found_on(rt.alloc(), text, Kind::Integer, Kind::Integer)?;
-        assert_eq!(rt; found, wanted, "{text}");
-    }
-    Ok(())
+    have_kinds(&rt, rt.alloc(), &rows)
 }

@@ -2,6 +2,7 @@ use crate::reading::Told::{Good, NotInProfile, Syntax};
 use crate::reading::{Told, nested, told_by};
 use al_values::NoMemory;
 use std::alloc::Global;
+use std::process::Abort;
 use std::test::Fail;
 
 fn told_nested(alloc: Global, parts: [&str; 5], count: u32) -> Result<Told, NoMemory> {
@@ -14,6 +15,15 @@ fn told_twice(alloc: Global, parts: [&str; 5]) -> Result<(Told, Told), NoMemory>
         told_nested(alloc, parts, 200)?,
         told_nested(alloc, parts, 201)?,
     ))
+}
+
+// Tests that 200 levels are good, and one more is left out at this place.
+fn end_at(rt: &impl Abort, alloc: Global, rows: &[([&str; 5], u32)]) -> Result<(), Fail> {
+    for (parts, place) in rows {
+        let found = told_twice(alloc, *parts)?;
+        assert_eq!(rt; found, (Good, NotInProfile(*place)), "{place}");
+    }
+    Ok(())
 }
 
 #[test]
@@ -32,11 +42,7 @@ fn kinds_of_levels(rt: HostRuntime) -> Result<(), Fail> {
         (["SELECT ", "1 IN (", "1", ")", ""], 1212),
         (["SELECT ", "1 NOT IN (1, ", "1", ", 1)", ""], 2616),
     ];
-    for (parts, place) in rows {
-        let found = told_twice(rt.alloc(), parts)?;
-        assert_eq!(rt; found, (Good, NotInProfile(place)), "{place}");
-    }
-    Ok(())
+    end_at(&rt, rt.alloc(), &rows)
 }
 
 #[test]
@@ -73,11 +79,7 @@ fn places_of_expressions(rt: HostRuntime) -> Result<(), Fail> {
             237,
         ),
     ];
-    for (parts, place) in rows {
-        let found = told_twice(rt.alloc(), parts)?;
-        assert_eq!(rt; found, (Good, NotInProfile(place)), "{place}");
-    }
-    Ok(())
+    end_at(&rt, rt.alloc(), &rows)
 }
 
 // In 200 parentheses.

@@ -4,6 +4,8 @@ use al_sql::read_script;
 use al_statements::{Script, SqlFault};
 use al_values::{Cant, NoMemory, Txt};
 use std::alloc::Global;
+use std::process::Abort;
+use std::test::Fail;
 
 /// What a text is told.
 #[derive(Clone, Copy, Debug, PartialEq, Eq)]
@@ -24,11 +26,6 @@ pub(crate) fn told_by(alloc: Global, text: &Txt) -> Result<Told, NoMemory> {
         Err(Cant::Why(SqlFault::NotInProfile { at })) => Ok(Told::NotInProfile(at)),
         Err(Cant::NoMemory) => Err(NoMemory),
     }
-}
-
-/// What a text is told, in short.
-pub(crate) fn told_of(alloc: Global, text: &str) -> Result<Told, NoMemory> {
-    told_by(alloc, &Txt::new(alloc, text)?)
 }
 
 /// The script that a text is.
@@ -69,9 +66,9 @@ pub(crate) fn brief(alloc: Global, printed: String) -> Result<Txt, NoMemory> {
     Ok(Txt::from_string(line))
 }
 
-/// The statements of a text.
-pub(crate) fn said(alloc: Global, text: &str) -> Result<Txt, Cant<SqlFault>> {
-    let script = script_of(alloc, text)?;
+// The statements of a text.
+fn said(alloc: Global, text: &Txt) -> Result<Txt, Cant<SqlFault>> {
+    let script = read_script(alloc, text)?;
     let printed = format!(in alloc; "{script:?}")?;
     Ok(brief(alloc, printed)?)
 }
@@ -88,4 +85,25 @@ pub(crate) fn nested(alloc: Global, parts: [&str; 5], count: u32) -> Result<Txt,
     }
     text.push_str(parts[4])?;
     Ok(Txt::from_string(text))
+}
+
+/// Tests that texts are told these.
+pub(crate) fn are_told(rt: &impl Abort, alloc: Global, rows: &[(&str, Told)]) -> Result<(), Fail> {
+    for (text, wanted) in rows {
+        let text = Txt::new(alloc, text)?;
+        let found = told_by(alloc, &text)?;
+        assert_eq!(rt; found, *wanted, "{text}");
+    }
+    Ok(())
+}
+
+/// Tests that texts say these statements.
+pub(crate) fn say(rt: &impl Abort, alloc: Global, rows: &[(&str, &str)]) -> Result<(), Fail> {
+    for (text, wanted) in rows {
+        let text = Txt::new(alloc, text)?;
+        let found = said(alloc, &text)?;
+        let wanted = Txt::new(alloc, wanted)?;
+        assert_eq!(rt; found, wanted, "{text}");
+    }
+    Ok(())
 }

@@ -1,5 +1,5 @@
 use crate::reading::Told::{Good, NotInProfile, Syntax};
-use crate::reading::told_of;
+use crate::reading::are_told;
 use std::test::Fail;
 
 #[test]
@@ -68,11 +68,7 @@ fn writes(rt: HostRuntime) -> Result<(), Fail> {
         ("DELETE FROM t WHERE", Syntax(19)),
         ("DELETE FROM t WHERE a , b", Syntax(22)),
     ];
-    for (text, wanted) in rows {
-        let found = told_of(rt.alloc(), text)?;
-        assert_eq!(rt; found, wanted, "{text:?}");
-    }
-    Ok(())
+    are_told(&rt, rt.alloc(), &rows)
 }
 
 #[test]
@@ -111,11 +107,7 @@ fn queries(rt: HostRuntime) -> Result<(), Fail> {
         ("SELECT a FROM t FOR NO KEY SHARE", Syntax(27)),
         ("SELECT a FROM t FOR SHARE NOWAIT", Syntax(26)),
     ];
-    for (text, wanted) in rows {
-        let found = told_of(rt.alloc(), text)?;
-        assert_eq!(rt; found, wanted, "{text:?}");
-    }
-    Ok(())
+    are_told(&rt, rt.alloc(), &rows)
 }
 
 #[test]
@@ -147,11 +139,7 @@ fn aggregates(rt: HostRuntime) -> Result<(), Fail> {
         ("SELECT count, min, max FROM t FOR UPDATE", Good),
         ("SELECT count * FROM t", Syntax(15)),
     ];
-    for (text, wanted) in rows {
-        let found = told_of(rt.alloc(), text)?;
-        assert_eq!(rt; found, wanted, "{text:?}");
-    }
-    Ok(())
+    are_told(&rt, rt.alloc(), &rows)
 }
 
 // Behind a comma an aggregate's word is taken for itself, whatever stands behind it.
@@ -164,11 +152,7 @@ fn next_aggregate(rt: HostRuntime) -> Result<(), Fail> {
         ("SELECT min(a), count *", Syntax(21)),
         ("SELECT count(*), min(a), count_", Syntax(25)),
     ];
-    for (text, wanted) in rows {
-        let found = told_of(rt.alloc(), text)?;
-        assert_eq!(rt; found, wanted, "{text:?}");
-    }
-    Ok(())
+    are_told(&rt, rt.alloc(), &rows)
 }
 
 #[test]
@@ -219,11 +203,7 @@ fn expressions(rt: HostRuntime) -> Result<(), Fail> {
         ("SELECT TRUE FALSE", Syntax(12)),
         ("SELECT ALL", Good),
     ];
-    for (text, wanted) in rows {
-        let found = told_of(rt.alloc(), text)?;
-        assert_eq!(rt; found, wanted, "{text:?}");
-    }
-    Ok(())
+    are_told(&rt, rt.alloc(), &rows)
 }
 
 #[test]
@@ -264,11 +244,7 @@ fn calls_and_casts(rt: HostRuntime) -> Result<(), Fail> {
         ("SELECT 1::int(3)", Syntax(13)),
         ("SELECT 1::text::text text", Syntax(21)),
     ];
-    for (text, wanted) in rows {
-        let found = told_of(rt.alloc(), text)?;
-        assert_eq!(rt; found, wanted, "{text:?}");
-    }
-    Ok(())
+    are_told(&rt, rt.alloc(), &rows)
 }
 
 #[test]
@@ -328,9 +304,5 @@ fn alterations(rt: HostRuntime) -> Result<(), Fail> {
         ("ALTER TABLE t RENAME a TO b, INHERIT p", Syntax(27)),
         ("ALTER TABLE t RENAME CONSTRAINT c d", Syntax(34)),
     ];
-    for (text, wanted) in rows {
-        let found = told_of(rt.alloc(), text)?;
-        assert_eq!(rt; found, wanted, "{text:?}");
-    }
-    Ok(())
+    are_told(&rt, rt.alloc(), &rows)
 }

@@ -1,4 +1,4 @@
-use crate::reading::said;
+use crate::reading::say;
 use std::test::Fail;
 
 #[test]
@@ -38,11 +38,7 @@ fn transactions(rt: HostRuntime) -> Result<(), Fail> {
         ("-- COMMIT", "[]"),
         ("; COMMIT -- x\n; ;", "[Commit]"),
     ];
-    for (text, wanted) in rows {
-        let found = said(rt.alloc(), text)?;
-        assert_eq!(rt; found.as_str(), wanted, "{text:?}");
-    }
-    Ok(())
+    say(&rt, rt.alloc(), &rows)
 }
 
 #[test]
@@ -89,11 +85,7 @@ fn locks(rt: HostRuntime) -> Result<(), Fail> {
             "[LockTable(LockTable targets: [ONLY a, b], mode: AccessExclusive, nowait: true)]",
         ),
     ];
-    for (text, wanted) in rows {
-        let found = said(rt.alloc(), text)?;
-        assert_eq!(rt; found.as_str(), wanted, "{text:?}");
-    }
-    Ok(())
+    say(&rt, rt.alloc(), &rows)
 }
 
 #[test]
@@ -128,11 +120,7 @@ fn drops(rt: HostRuntime) -> Result<(), Fail> {
             "[DropTable(DropTable if_exists: false, names: [restrict, Re\"strict])]",
         ),
     ];
-    for (text, wanted) in rows {
-        let found = said(rt.alloc(), text)?;
-        assert_eq!(rt; found.as_str(), wanted, "{text:?}");
-    }
-    Ok(())
+    say(&rt, rt.alloc(), &rows)
 }
 
 #[test]
@@ -171,11 +159,7 @@ fn writes(rt: HostRuntime) -> Result<(), Fail> {
             "[Delete(Delete target: t, condition: Some(Column(20, a)))]",
         ),
     ];
-    for (text, wanted) in rows {
-        let found = said(rt.alloc(), text)?;
-        assert_eq!(rt; found.as_str(), wanted, "{text:?}");
-    }
-    Ok(())
+    say(&rt, rt.alloc(), &rows)
 }
 
 #[test]
@@ -214,11 +198,7 @@ fn queries(rt: HostRuntime) -> Result<(), Fail> {
             "[Select(Table(TableQuery list: All, target: t, condition: None, order: [SortKey column: a, descending: true, SortKey column: b, descending: false, SortKey column: c, descending: false], lock: None))]",
         ),
     ];
-    for (text, wanted) in rows {
-        let found = said(rt.alloc(), text)?;
-        assert_eq!(rt; found.as_str(), wanted, "{text:?}");
-    }
-    Ok(())
+    say(&rt, rt.alloc(), &rows)
 }
 
 #[test]
@@ -241,9 +221,5 @@ fn aggregates(rt: HostRuntime) -> Result<(), Fail> {
             "[Select(Row([Output expr: Column(7, count), name: None, Output expr: Column(14, min), name: None]))]",
         ),
     ];
-    for (text, wanted) in rows {
-        let found = said(rt.alloc(), text)?;
-        assert_eq!(rt; found.as_str(), wanted, "{text:?}");
-    }
-    Ok(())
+    say(&rt, rt.alloc(), &rows)
 }

@@ -1,7 +1,8 @@
-use crate::reading::{brief, said, script_of};
+use crate::reading::{brief, say, script_of};
 use al_statements::{ElementList, Script, SqlFault, Statement};
 use al_values::{Cant, Txt};
 use std::alloc::Global;
+use std::process::Abort;
 use std::test::Fail;
 
 fn elements(script: &Script) -> Option<&ElementList> {
@@ -21,6 +22,17 @@ fn defined(alloc: Global, text: &str) -> Result<Txt, Cant<SqlFault>> {
     Ok(brief(alloc, printed)?)
 }
 
+// Tests that tables have these columns and constraints.
+fn define(rt: &impl Abort, alloc: Global, rows: &[(&str, &str)]) -> Result<(), Fail> {
+    for (text, wanted) in rows {
+        let text = Txt::new(alloc, text)?;
+        let found = defined(alloc, text.as_str())?;
+        let wanted = Txt::new(alloc, wanted)?;
+        assert_eq!(rt; found, wanted, "{text}");
+    }
+    Ok(())
+}
+
 #[test]
 fn tables(rt: HostRuntime) -> Result<(), Fail> {
     let rows = [
@@ -37,11 +49,7 @@ fn tables(rt: HostRuntime) -> Result<(), Fail> {
             "[CreateTable(CreateTable name: t, elements: [Column(ColumnDefinition name: a, kind: Integer, default: None, not_null: false, constraints: [])], parents: [p])]",
         ),
     ];
-    for (text, wanted) in rows {
-        let found = said(rt.alloc(), text)?;
-        assert_eq!(rt; found.as_str(), wanted, "{text:?}");
-    }
-    Ok(())
+    say(&rt, rt.alloc(), &rows)
 }
 
 #[test]
@@ -72,11 +80,7 @@ fn columns(rt: HostRuntime) -> Result<(), Fail> {
             "[Column(ColumnDefinition name: A, kind: Varchar(3), default: None, not_null: false, constraints: [Constraint name: Some(k), rule: PrimaryKey([A]), Constraint name: Some(u), rule: Unique([A])])]",
         ),
     ];
-    for (text, wanted) in rows {
-        let found = defined(rt.alloc(), text)?;
-        assert_eq!(rt; found.as_str(), wanted, "{text:?}");
-    }
-    Ok(())
+    define(&rt, rt.alloc(), &rows)
 }
 
 #[test]
@@ -91,8 +95,8 @@ fn rules(rt: HostRuntime) -> Result<(), Fail> {
             "[Constraint(Constraint name: Some(c), rule: Check(Column(36, a), true))]",
         ),
         (
-            "CREATE TABLE t (UNIQUE (a, b), PRIMARY KEY (a))",
-            "[Constraint(Constraint name: None, rule: Unique([a, b])), Constraint(Constraint name: None, rule: PrimaryKey([a]))]",
+            "CREATE TABLE t (CONSTRAINT u UNIQUE (a, b), PRIMARY KEY (a))",
+            "[Constraint(Constraint name: Some(u), rule: Unique([a, b])), Constraint(Constraint name: None, rule: PrimaryKey([a]))]",
         ),
         (
             "CREATE TABLE t (FOREIGN KEY (a, b) REFERENCES p (c, d))",
@@ -103,9 +107,5 @@ fn rules(rt: HostRuntime) -> Result<(), Fail> {
             "[Constraint(Constraint name: Some(f), rule: ForeignKey([a], p, None))]",
         ),
     ];
-    for (text, wanted) in rows {
-        let found = defined(rt.alloc(), text)?;
-        assert_eq!(rt; found.as_str(), wanted, "{text:?}");
-    }
-    Ok(())
+    define(&rt, rt.alloc(), &rows)
 }

@@ -3,6 +3,7 @@ use al_expr::{Expr, place_of, same, without_places};
 use al_statements::{Query, Script, SqlFault, Statement};
 use al_values::{Cant, Copied, NoMemory, Txt};
 use std::alloc::Global;
+use std::process::Abort;
 use std::test::Fail;
 
 /// The first expression of a script that is a SELECT without FROM.
@@ -24,6 +25,17 @@ fn tree(alloc: Global, text: &str) -> Result<Txt, Cant<SqlFault>> {
         None => String::new(alloc),
     };
     Ok(brief(alloc, printed)?)
+}
+
+// Tests that texts are these trees.
+fn are_trees(rt: &impl Abort, alloc: Global, rows: &[(&str, &str)]) -> Result<(), Fail> {
+    for (text, wanted) in rows {
+        let text = Txt::new(alloc, text)?;
+        let found = tree(alloc, text.as_str())?;
+        let wanted = Txt::new(alloc, wanted)?;
+        assert_eq!(rt; found, wanted, "{text}");
+    }
+    Ok(())
 }
 
 #[test]
@@ -56,11 +68,7 @@ fn atoms(rt: HostRuntime) -> Result<(), Fail> {
         ("SELECT length(a)", "Length(7, Column(14, a))"),
         ("SELECT ((a))", "Column(9, a)"),
     ];
-    for (text, wanted) in rows {
-        let found = tree(rt.alloc(), text)?;
-        assert_eq!(rt; found.as_str(), wanted, "{text:?}");
-    }
-    Ok(())
+    are_trees(&rt, rt.alloc(), &rows)
 }
 
 #[test]
@@ -139,11 +147,7 @@ fn operators(rt: HostRuntime) -> Result<(), Fail> {
             "Casts(Column(12, a), [(13, Integer), (7, Text), (27, Date)])",
         ),
     ];
-    for (text, wanted) in rows {
-        let found = tree(rt.alloc(), text)?;
-        assert_eq!(rt; found.as_str(), wanted, "{text:?}");
-    }
-    Ok(())
+    are_trees(&rt, rt.alloc(), &rows)
 }
 
 #[test]
@@ -170,11 +174,7 @@ fn ranges_and_lists(rt: HostRuntime) -> Result<(), Fail> {
             "In(14, false, Chain(Column(7, a), [(9, Concat, Column(12, b))]), [Column(18, c)])",
         ),
     ];
-    for (text, wanted) in rows {
-        let found = tree(rt.alloc(), text)?;
-        assert_eq!(rt; found.as_str(), wanted, "{text:?}");
-    }
-    Ok(())
+    are_trees(&rt, rt.alloc(), &rows)
 }
 
 // Whether the expressions of two texts are one tree, with their places, and without.

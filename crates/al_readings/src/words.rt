@@ -1,5 +1,5 @@
 use crate::reading::Told::{Good, NotInProfile, Syntax};
-use crate::reading::{Told, told_by, told_of};
+use crate::reading::{Told, are_told, told_by};
 use al_values::{NoMemory, Txt};
 use std::alloc::Global;
 use std::test::Fail;
@@ -91,11 +91,7 @@ fn where_they_are_met(rt: HostRuntime) -> Result<(), Fail> {
         ("COMMIT TRANSACTION TRANSACTION", NotInProfile(19)),
         ("analyzed", Syntax(0)),
     ];
-    for (text, wanted) in rows {
-        let found = told_of(rt.alloc(), text)?;
-        assert_eq!(rt; found, wanted, "{text:?}");
-    }
-    Ok(())
+    are_told(&rt, rt.alloc(), &rows)
 }
 
 // A piece so many times.
