@@ -1,20 +1,12 @@
-//! Tests of the crates that read SQL, evaluate expressions and keep tables: here, since a crate with tests is proved twice.
+//! Tests of the crates that keep tables, and of trees of statements: here, since a crate with tests is proved twice.
 #![tactic(auto)]
 
-#[cfg(test)]
-mod alterations;
-#[cfg(test)]
-mod expressions;
 #[cfg(test)]
 mod names;
 #[cfg(test)]
 mod phrases;
 #[cfg(test)]
-mod roots;
-#[cfg(test)]
-mod samples;
-#[cfg(test)]
-mod scripts;
+mod places;
 #[cfg(test)]
 mod shapes;
 #[cfg(test)]
