@@ -4,6 +4,8 @@
 #[cfg(test)]
 mod alterations;
 #[cfg(test)]
+mod altering;
+#[cfg(test)]
 mod deep;
 #[cfg(test)]
 mod evaluated;
