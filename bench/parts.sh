@@ -3,13 +3,18 @@
 # 1,000,000 versions: 10, 1,000 and 10,000 transactions were committed, each with as many versions, marks or keys, there are
 # 5, 50 and 500 tables, and 62 transactions are open. Prints instructions for each call, as the difference of a run that
 # makes it and one that makes none, and how many times as many they are as over the fewest. `finish` has a start in it, and a
-# table's change in al_catalogue; `take_out` a put_back, `unlink` a link. It needs valgrind, and takes minutes.
+# table's change in al_catalogue; `take_out` a put_back, `unlink` and `unlink_root` a link. `link` makes a table a child of one
+# that has three ancestors at most, `link_above` a parent of the table from which all descend, `unlink_root` a child of that. It needs
+# valgrind, and takes minutes.
 # Usage: bench/parts.sh [CRATE..]   (xacts heap keys tree catalogue schema where none is given)
 set -eu
 cd "$(dirname "$0")/.."
 runs=1
 . bench/timing.sh
 command -v valgrind >/dev/null || { echo "no valgrind" >&2; exit 1; }
+
+# Without its bins for small blocks malloc puts what is freed together at once, and not at some later call.
+export GLIBC_TUNABLES=glibc.malloc.mxfast=0
 
 # The calls of a run, few enough that no table doubles its room amid them.
 times=10
@@ -19,7 +24,7 @@ calls_of() {
     xacts) echo start finish fate snapshot sees mark in_the_way ;;
     heap) echo put change at newest visible take_out ;;
     keys) echo seek gives enter leave ;;
-    tree) echo children family whole_family link unlink ;;
+    tree) echo children family whole_family link link_above unlink unlink_root ;;
     catalogue) echo find claim entry tree set finish ;;
     schema) echo columns row_of ;;
     *) echo "no crate $1" >&2; exit 1 ;;

@@ -21,7 +21,7 @@ least() {
 instructions() {
   command -v valgrind >/dev/null || { echo 0; return; }
   valgrind --tool=callgrind --callgrind-out-file=/dev/null "$program" "$@" 2>&1 >/dev/null |
-    awk '/Collected/ { count = $NF } END { print count + 0 }'
+    awk '/Collected/ { count = $NF } END { print count == "" ? 0 : count }'
 }
 
 # per MORE LESS COUNT: the nanoseconds for each of so many, as the difference of two runs.

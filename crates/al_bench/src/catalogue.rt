@@ -70,9 +70,10 @@ fn come_and_go(
     tables: &mut Catalogue,
     xacts: &mut Xacts,
     table: u32,
+    entry: TableEntry,
 ) -> Result<u64, NoMemory> {
     let x = start(alloc, xacts)?;
-    let made = make(alloc, tables, x, table, entry_of(alloc, table)?)?;
+    let made = make(alloc, tables, x, table, entry)?;
     tables.finish(x, Fate::Committed);
     commit(xacts, x);
     Ok(made)
@@ -86,10 +87,12 @@ fn claim_number(claimed: Claimed) -> u64 {
     }
 }
 
+/// The entry of a new table is made for each call, so that its making is no part of what is counted.
 fn one(
     alloc: Global,
     call: Call,
     new: u32,
+    entry: TableEntry,
     tables: &mut Catalogue,
     xacts: &mut Xacts,
     last: Xact,
@@ -101,8 +104,8 @@ fn one(
         Call::Claim => claim_number(tables.claim(name, last)),
         Call::Entry => u64::from(tables.entry(1, last).is_some()),
         Call::Tree => tables.tree(alloc, last)?.children(0).len() as u64,
-        Call::Set => make(alloc, tables, last, new, entry_of(alloc, new)?)?,
-        Call::Finish => come_and_go(alloc, tables, xacts, new)?,
+        Call::Set => make(alloc, tables, last, new, entry)?,
+        Call::Finish => come_and_go(alloc, tables, xacts, new, entry)?,
     };
     Ok(answer)
 }
@@ -112,17 +115,26 @@ pub fn calls(alloc: Global, call: Call, size: Size, times: u32) -> Result<u64, N
     let mut xacts = without(alloc)?;
     let mut tables = Catalogue::new(alloc);
     for table in 0..size.tables {
-        let x = start(alloc, &mut xacts)?;
-        make(alloc, &mut tables, x, table, entry_of(alloc, table)?)?;
-        tables.finish(x, Fate::Committed);
-        commit(&mut xacts, x);
+        let entry = entry_of(alloc, table)?;
+        come_and_go(alloc, &mut tables, &mut xacts, table, entry)?;
     }
     let last = open(alloc, &mut xacts)?;
     let name = name_of(alloc, 1)?;
     let mut sum: u64 = 0;
     for number in 0..times {
         let new = size.tables.wrapping_add(number);
-        sum = sum.wrapping_add(one(alloc, call, new, &mut tables, &mut xacts, last, &name)?);
+        let entry = entry_of(alloc, new)?;
+        let answer = one(
+            alloc,
+            call,
+            new,
+            entry,
+            &mut tables,
+            &mut xacts,
+            last,
+            &name,
+        )?;
+        sum = sum.wrapping_add(answer);
     }
     Ok(sum)
 }

@@ -15,7 +15,9 @@ pub enum Call {
     Family,
     WholeFamily,
     Link,
+    LinkAbove,
     Unlink,
+    UnlinkRoot,
 }
 
 pub fn call_of(word: &str) -> Option<Call> {
@@ -25,18 +27,31 @@ pub fn call_of(word: &str) -> Option<Call> {
         "family" => Some(Call::Family),
         "whole_family" => Some(Call::WholeFamily),
         "link" => Some(Call::Link),
+        "link_above" => Some(Call::LinkAbove),
         "unlink" => Some(Call::Unlink),
+        "unlink_root" => Some(Call::UnlinkRoot),
         _ => None,
     }
 }
 
-/// Makes a table a child of table 1.
-fn link(alloc: Global, tree: &mut Tree, child: u32) -> Result<u64, NoMemory> {
-    match tree.link(alloc, child, 1) {
+/// Makes a table a child of another.
+fn link(alloc: Global, tree: &mut Tree, child: u32, parent: u32) -> Result<u64, NoMemory> {
+    match tree.link(alloc, child, parent) {
         Ok(()) => Ok(1),
         Err(Cant::Why(_)) => Ok(0),
         Err(Cant::NoMemory) => Err(NoMemory),
     }
+}
+
+/// The same, and ends the link again.
+fn link_and_unlink(
+    alloc: Global,
+    tree: &mut Tree,
+    child: u32,
+    parent: u32,
+) -> Result<u64, NoMemory> {
+    link(alloc, tree, child, parent)?;
+    Ok(u64::from(tree.unlink(child, parent)))
 }
 
 fn one(alloc: Global, call: Call, new: u32, tree: &mut Tree) -> Result<u64, NoMemory> {
@@ -45,11 +60,10 @@ fn one(alloc: Global, call: Call, new: u32, tree: &mut Tree) -> Result<u64, NoMe
         Call::Children => tree.children(0).len() as u64,
         Call::Family => tree.family(alloc, 0)?.len() as u64,
         Call::WholeFamily => tree.family(alloc, ROOT)?.len() as u64,
-        Call::Link => link(alloc, tree, new)?,
-        Call::Unlink => {
-            link(alloc, tree, new)?;
-            u64::from(tree.unlink(new, 1))
-        }
+        Call::Link => link(alloc, tree, new, 1)?,
+        Call::LinkAbove => link(alloc, tree, ROOT, new)?,
+        Call::Unlink => link_and_unlink(alloc, tree, new, 1)?,
+        Call::UnlinkRoot => link_and_unlink(alloc, tree, new, ROOT)?,
     };
     Ok(answer)
 }

@@ -1,12 +1,11 @@
 -- What everybody finds once a transaction has ended.
-use Rattle.std.proofs.Common.{◌≡◌, ℕ, Bool, true, false, refl, Option, Some, None}
-use Rattle.std.specs.Prelude.{◌==◌}
+use Rattle.std.proofs.Common.{◌≡◌, ℕ, true, refl, Option, Some, None}
 use Rattle.al_xacts.specs.declared.xact.Fate.TheVariants as fates
 use Rattle.al_catalogue.specs.declared.entry.TableEntry.{TableEntry}
 use Rattle.al_catalogue.specs.declared.entry.Own.{Own}
 use Rattle.al_catalogue.specs.declared.entry.Kept.{Kept}
 use Rattle.al_catalogue.specs.Tables.{own_or, seen}
-use Rattle.al_catalogue.specs.Changes.{ended, ended_own, is_mine}
+use Rattle.al_catalogue.specs.Changes.{ended, is_mine}
 
 committed_by : (number x y : ℕ) (committed : Option TableEntry) (own : Option Own) → is_mine x own ≡ true
     → seen y (ended x fates.Committed (record { number = number; committed = committed; own = own })) ≡ own_or x own committed

@@ -1,17 +1,16 @@
 -- How tables are found once a transaction has ended.
-use Rattle.std.proofs.Common.{◌≡◌, ℕ, ◌+◌, ◌<◌, Bool, true, false, cond, ◌||◌, List, [], ◌∷◌, refl, sym, ap, ◌∙◌, subst, arith, zero, suc, slice_get, Option, Some, None, ◌⊎◌, inl, inr, ⊎_elim, fold, map}
+use Rattle.std.proofs.Common.{◌≡◌, ℕ, Bool, true, false, cond, ◌||◌, List, [], ◌∷◌, refl, sym, ap, ◌∙◌, subst, zero, suc, slice_get, Option, Some, None, ⊎_elim, fold, map}
 use Rattle.std.specs.Prelude.{◌==◌}
-use Rattle.std.specs.Option.{option_map}
-use Rattle.std.proofs.lemmas.Bool.{eq-eqb, eqb-true, ne_eqb, or_cases, or_left, or_right, both_ways}
-use Rattle.std.proofs.lemmas.Option.{none-some, same_Some, slice_get-map}
+use Rattle.std.proofs.lemmas.Bool.{eqb-true, ne_eqb, or_cases, both_ways}
+use Rattle.std.proofs.lemmas.Option.{none-some, same_Some}
 use Rattle.al_xacts.specs.declared.xact.Fate.{Fate}
 use Rattle.al_xacts.specs.declared.xact.Fate.TheVariants as fates
 use Rattle.al_catalogue.specs.declared.entry.TableEntry.{TableEntry}
 use Rattle.al_catalogue.specs.declared.entry.Own.{Own}
 use Rattle.al_catalogue.specs.declared.entry.Kept.{Kept}
 use Rattle.al_catalogue.specs.Names.{is_called}
-use Rattle.al_catalogue.specs.Changes.{ended, ended_own}
-use Rattle.al_catalogue.specs.Indexed.{is_listed, numbers_of, place_in, has_name, own_by, is_own, AreNamed, IsIndexed, at_place}
+use Rattle.al_catalogue.specs.Changes.{ended}
+use Rattle.al_catalogue.specs.Indexed.{is_listed, numbers_of, place_in, has_name, is_own, AreNamed, IsIndexed, at_place}
 use Rattle.al_catalogue.proofs.Indexing.{got-at}
 
 -- what a transaction's end leaves of a table

@@ -4,7 +4,6 @@ use Rattle.std.specs.Prelude.{◌==◌}
 use Rattle.std.specs.Option.{option_map, option_map_or, option_and_then}
 use Rattle.std.proofs.lemmas.Option.{none-some, same_Some}
 use Rattle.al_catalogue.specs.declared.entry.TableEntry.{TableEntry}
-use Rattle.al_catalogue.specs.declared.entry.Own.{Own}
 use Rattle.al_catalogue.specs.declared.entry.Kept.{Kept}
 use Rattle.al_catalogue.specs.Tables.{seen, entry_of}
 use Rattle.al_catalogue.specs.Changes.{is_mine, is_free_for, changed}

@@ -1,7 +1,6 @@
 -- How tables are found goes on to agree with them.
-use Rattle.std.proofs.Common.{◌≡◌, ℕ, ◌+◌, ◌<◌, ◌≤◌, Bool, true, false, cond, not, ◌||◌, List, [], ◌∷◌, ◌++◌, refl, sym, ap, ◌∙◌, subst, arith, zero, suc, slice_get, slice_set, get_or, Option, Some, None, ◌⊎◌, inl, inr, ⊎_elim, fold, nat_eq, map, length, filter, unwrap_or, Result, Ok, Err, OnOk, OnErr}
+use Rattle.std.proofs.Common.{◌≡◌, ℕ, ◌+◌, ◌<◌, ◌≤◌, Bool, true, false, cond, not, List, [], ◌∷◌, ◌++◌, refl, sym, ap, ◌∙◌, subst, arith, zero, suc, slice_get, slice_set, get_or, Option, Some, None, ◌⊎◌, inl, inr, ⊎_elim, nat_eq, length, unwrap_or, Result, Ok, Err, OnOk, OnErr}
 use Rattle.std.specs.Prelude.{◌==◌}
-use Rattle.std.specs.List.{list_any}
 use Rattle.std.specs.Option.{option_map, option_map_or}
 use Rattle.std.specs.Str.{bytes_eq}
 use Rattle.std.specs.String.{string_bytes, string_eq}
@@ -9,17 +8,13 @@ use Rattle.std.specs.Prelude.{String}
 use Rattle.std.proofs.lemmas.Slice.Eq.{bytes_eq-Decides}
 use Rattle.std.proofs.lemmas.Map.Text.{hash_map_updates_text}
 use Rattle.indexmap.specs.IndexMap.{IndexMap, UpdatesBy, get_by_text}
-use Rattle.std.proofs.lemmas.Bool.{eqb-true, eqb-false, eq-eqb, ne_eqb, or_cases, or_left, or_right, both_ways}
+use Rattle.std.proofs.lemmas.Bool.{eqb-true, eqb-false, eq-eqb, or_cases, or_left, or_right, both_ways}
 use Rattle.std.proofs.lemmas.List.Folds.{list_any-append}
-use Rattle.std.proofs.lemmas.Option.{none-some, same_Some, slice_get-map}
-use Rattle.al_xacts.specs.declared.xact.Fate.{Fate}
-use Rattle.al_xacts.specs.declared.xact.Fate.TheVariants as fates
-use Rattle.al_catalogue.specs.declared.entry.TableEntry.{TableEntry}
+use Rattle.std.proofs.lemmas.Option.{none-some, same_Some}
 use Rattle.al_catalogue.specs.declared.entry.Own.{Own}
 use Rattle.al_catalogue.specs.declared.entry.Kept.{Kept}
 use Rattle.al_catalogue.specs.Names.{is_called}
-use Rattle.al_catalogue.specs.Changes.{ended, ended_own}
-use Rattle.al_catalogue.specs.Indexed.{is_listed, with_place, without_place, ChangesNamed, ChangesOwned, KeepsListed, numbers_of, place_in, own_called, has_name, own_by, is_own, AreNamed, IsIndexed, at_place, with_own, named_in}
+use Rattle.al_catalogue.specs.Indexed.{is_listed, with_place, without_place, ChangesNamed, ChangesOwned, KeepsListed, numbers_of, place_in, has_name, is_own, AreNamed, IsIndexed, at_place, with_own, named_in}
 
 -- ---- places
 

@@ -3,4 +3,5 @@ mod Nearest
 mod Indexing
 mod Ends
 mod Found
+mod Exact
 mod Vectors

@@ -1,5 +1,5 @@
 -- Cases of the definitions, and wrong answers that they refuse.
-use Rattle.std.specs.Prelude.{◌≡◌, ℕ, List, [], ◌∷◌, Bool, true, false, refl, Option, Some, None, map}
+use Rattle.std.specs.Prelude.{◌≡◌, ℕ, List, [], ◌∷◌, true, false, refl, Some, None, map}
 use Rattle.al_xacts.specs.declared.xact.Fate.TheVariants as fates
 use Rattle.al_catalogue.specs.declared.entry.TableEntry.{TableEntry}
 use Rattle.al_catalogue.specs.declared.entry.Kept.{Kept}

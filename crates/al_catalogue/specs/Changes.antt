@@ -1,5 +1,5 @@
 -- Changes of tables, and what becomes of them at their transaction's end (13.2).
-use Rattle.std.specs.Prelude.{◌≡◌, ℕ, List, [], ◌∷◌, Bool, true, false, ◌==◌, ◌⊎◌, if◌then◌else◌, Option, Some, None, map}
+use Rattle.std.specs.Prelude.{◌≡◌, ℕ, List, [], ◌∷◌, Bool, true, ◌==◌, ◌⊎◌, if◌then◌else◌, Option, Some, None}
 use Rattle.al_xacts.specs.declared.xact.Fate.{Fate}
 use Rattle.al_xacts.specs.declared.xact.Fate.TheVariants as fates
 use Rattle.al_catalogue.specs.declared.entry.TableEntry.{TableEntry}

@@ -1,7 +1,7 @@
 -- How tables are found: by number, by name, and by the transaction that has changed them.
-use Rattle.std.specs.Prelude.{◌≡◌, ℕ, zero, suc, ◌+◌, ◌<◌, List, [], ◌∷◌, ◌++◌, Bool, true, false, not, ◌==◌, ◌||◌, if◌then◌else◌, Option, Some, None, unwrap_or, filter, map, fold, nat_eq, nat_le, slice_get, String}
+use Rattle.std.specs.Prelude.{◌≡◌, ℕ, zero, suc, ◌+◌, List, [], ◌∷◌, ◌++◌, Bool, true, false, not, ◌==◌, ◌||◌, ◌&&◌, if◌then◌else◌, Option, Some, None, unwrap_or, filter, fold, nat_eq, nat_le, slice_get, String}
 use Rattle.std.specs.List.{list_any}
-use Rattle.std.specs.Option.{option_map, is_some}
+use Rattle.std.specs.Option.{option_map, option_map_or, is_some}
 use Rattle.std.specs.Map.{lookup}
 use Rattle.std.specs.Str.{bytes_eq}
 use Rattle.indexmap.specs.IndexMap.{IndexMap, get_by_text}
@@ -77,6 +77,28 @@ pub record IsIndexed (tables : List Kept) (numbers : ℕ → Option ℕ) (named 
   pub numbered : (number : ℕ) → numbers number ≡ place_in (numbers_of tables) number
   pub names : AreNamed tables named
   pub owners : (x at : ℕ) (kept : Kept) → slice_get tables at ≡ Some kept → is_own x kept ≡ true → is_listed at (owned x) ≡ true
+
+-- whether the table at a place has a name
+abbrev pub has_name_at : List Kept → List ℕ → ℕ → Bool
+has_name_at tables name at = option_map_or (has_name name) (slice_get tables at) false
+
+-- the places of a name are exactly those of the tables that have it
+abbrev pub AreExact : List Kept → (List ℕ → List ℕ) → Type 0
+AreExact tables named = (name : List ℕ) (at : ℕ) → is_listed at (named name) ≡ has_name_at tables name at
+
+-- but that one place stands there by the name of an entry too
+abbrev pub AreExactBut : List Kept → (List ℕ → List ℕ) → ℕ → Option TableEntry → Type 0
+AreExactBut tables named at entry =
+    (name : List ℕ) (other : ℕ) → is_listed other (named name) ≡ (has_name_at tables name other || ((at == other) && is_called name entry))
+
+-- a place more for the name of an entry, and no other
+abbrev pub ListsMore : (List ℕ → List ℕ) → (List ℕ → List ℕ) → ℕ → Option TableEntry → Type 0
+ListsMore before after at entry =
+    (name : List ℕ) (other : ℕ) → is_listed other (after name) ≡ (is_listed other (before name) || ((at == other) && is_called name entry))
+
+-- no name is kept without a place
+abbrev pub HasNoBare : (List ℕ → Option (List ℕ)) → Type 0
+HasNoBare got = (name : List ℕ) → got name ≡ Some [] → ⊥
 
 -- the table at a place is changed
 abbrev pub at_place : (Kept → Kept) → ℕ → List Kept → List Kept

@@ -1,12 +1,12 @@
 -- The names of tables, and who stands in the way of one.
-use Rattle.std.specs.Prelude.{◌≡◌, ℕ, List, [], ◌∷◌, Bool, true, false, not, ◌==◌, ◌&&◌, ◌||◌, ◌⊎◌, if◌then◌else◌, Option, Some, None}
+use Rattle.std.specs.Prelude.{ℕ, List, [], ◌∷◌, Bool, false, not, ◌==◌, ◌&&◌, ◌||◌, if◌then◌else◌, Option, Some, None}
 use Rattle.al_expr.specs.Columns.{same_name}
 use Rattle.al_catalogue.specs.declared.entry.TableEntry.{TableEntry}
 use Rattle.al_catalogue.specs.declared.entry.Own.{Own}
 use Rattle.al_catalogue.specs.declared.entry.Kept.{Kept}
 use Rattle.al_catalogue.specs.declared.claimed.Claimed.{Claimed}
 use Rattle.al_catalogue.specs.declared.claimed.Claimed.TheVariants as claims
-use Rattle.al_catalogue.specs.Tables.{seen, entry_of}
+use Rattle.al_catalogue.specs.Tables.{seen}
 
 -- whether a table is there and has the name
 abbrev pub is_called : List ℕ → Option TableEntry → Bool

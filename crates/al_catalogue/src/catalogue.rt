@@ -1,11 +1,12 @@
 ghost use Rattle.std.specs.Prelude.{ℕ, ◌≡◌, ◌<◌, ◌∷◌, ◌++◌, [], Some, None, true, map, length, IfOk, OnOk, OnErr};
+ghost use Rattle.std.specs.List.{list_any};
 ghost use Rattle.std.specs.Option.{option_copied};
 ghost use Rattle.al_xacts.specs.declared.xact.Fate.TheVariants as fates;
 ghost use Rattle.al_tree.specs.Links.{has_link};
 ghost use Rattle.al_catalogue.specs.Tables.{entry_of, is_parent};
 ghost use Rattle.al_catalogue.specs.Names.{find_in, claim_in, taker_in};
 ghost use Rattle.al_catalogue.specs.Changes.{is_free_for, IsNameFree, changed, ended};
-ghost use Rattle.al_catalogue.specs.Indexed.{at_place, numbers_of, place_in, with_own};
+ghost use Rattle.al_catalogue.specs.Indexed.{at_place, has_name, numbers_of, place_in, with_own};
 
 use crate::changes::{change_at, end_all, first_change, list_name, list_owner};
 use crate::lookup::{is_mine_at, note_all, number_at, seen_at, taker_at};
@@ -37,7 +38,8 @@ impl Model for Catalogue {
     ghost use Rattle.std.specs.Prelude.{List, nat_eq};
     ghost use Rattle.std.specs.Map.{lookup};
     ghost use Rattle.al_catalogue.specs.declared.entry.Kept.{Kept};
-    ghost use Rattle.al_catalogue.specs.Indexed.{IsIndexed, named_in, owned_in};
+    ghost use Rattle.indexmap.specs.IndexMap.{get_by_text};
+    ghost use Rattle.al_catalogue.specs.Indexed.{AreExact, HasNoBare, IsIndexed, named_in, owned_in};
     ghost use Rattle.al_expr.specs.contracts.tree.Expr as e;
     ghost use Rattle.std.specs.Coded.{codes};
 
@@ -47,7 +49,7 @@ impl Model for Catalogue {
 
     ghost view = { λ c. c.tables.items };
 
-    ghost invariant = { λ c. IsIndexed c.tables.items (λ number. lookup (nat_eq number) c.numbers.entries) (named_in c.names) (owned_in c.owners.entries) };
+    ghost invariant = { λ c. IsIndexed c.tables.items (λ number. lookup (nat_eq number) c.numbers.entries) (named_in c.names) (owned_in c.owners.entries) × AreExact c.tables.items (named_in c.names) × HasNoBare (get_by_text c.names) };
 }
 
 impl Catalogue {
@@ -72,6 +74,14 @@ impl Catalogue {
             Some(at) => number_at(&self.tables, at),
             None => None,
         }
+    }
+
+    /// Whether something is kept of a name: a table has it, by what is committed or by an open transaction's change. So nothing
+    /// is kept of the names of tables that were dropped or renamed, once that is committed.
+    pub fn keeps_name(&self, name: &Name) -> bool
+        ensures { result ≡ list_any (has_name name.now) self.now }
+    {
+        self.names.contains_key(name.as_str())
     }
 
     // The other transaction that made, dropped or renamed a table of a name, where there is one.
@@ -202,8 +212,11 @@ impl Catalogue {
         let at = self.tables.len();
         self.tables.reserve(1)?;
         list_owner(alloc, &mut self.owners, &self.tables, x, at)?;
-        list_name(alloc, &mut self.names, at, &entry)?;
         self.numbers.insert(table, at)?;
+        if let Err(error) = list_name(alloc, &mut self.names, at, &entry) {
+            self.numbers.remove(&table);
+            return Err(error);
+        }
         self.tables
             .push_reserved(first_change(table, Own { xact: x, entry }));
         Ok(())

@@ -1,8 +1,9 @@
-ghost use Rattle.std.specs.Prelude.{◌≡◌, ℕ, List, ◌<◌, true, false, Some, None, fold, length, slice_get, OnOk};
+ghost use Rattle.std.specs.Prelude.{◌≡◌, ℕ, List, ◌<◌, true, false, Some, None, fold, length, slice_get, OnOk, OnErr};
 ghost use Rattle.std.specs.Option.{option_map_or};
 ghost use Rattle.al_catalogue.specs.Names.{is_called};
 ghost use Rattle.al_catalogue.specs.Changes.{ended};
-ghost use Rattle.al_catalogue.specs.Indexed.{AreNamed, KeepsListed, at_place, has_name, is_listed, is_own, named_in, owned_in, with_own};
+ghost use Rattle.indexmap.specs.IndexMap.{get_by_text};
+ghost use Rattle.al_catalogue.specs.Indexed.{AreExact, AreExactBut, AreNamed, HasNoBare, KeepsListed, ListsMore, at_place, has_name, is_listed, is_own, named_in, owned_in, with_own};
 
 use crate::lookup::{end, has_name, is_own};
 use crate::names::{add_name, add_owned, cut_name};
@@ -34,6 +35,9 @@ pub(crate) fn list_name(
 ) -> Result<(), NoMemory>
     ensures keeps { KeepsListed (named_in names.old) (named_in names.new) }
     ensures there { OnOk result ((name : List ℕ) → is_called name entry.now ≡ true → is_listed at (named_in names.new name) ≡ true) }
+    ensures listed { OnOk result (ListsMore (named_in names.old) (named_in names.new) at entry.now) }
+    ensures err { OnErr result ((asked : List ℕ) → named_in names.new asked ≡ named_in names.old asked) }
+    ensures filled { HasNoBare (get_by_text names.old) → HasNoBare (get_by_text names.new) }
 {
     match entry {
         Some(entry) => add_name(alloc, names, &entry.name, at),
@@ -83,7 +87,9 @@ fn forget(
     at: usize,
     gone: Option<TableEntry>,
 )
-    ensures { AreNamed tables.now (named_in names.old) → AreNamed tables.now (named_in names.new) }
+    ensures named { AreNamed tables.now (named_in names.old) → AreNamed tables.now (named_in names.new) }
+    ensures exact { AreExactBut tables.now (named_in names.old) at gone → AreExact tables.now (named_in names.new) }
+    ensures filled { HasNoBare (get_by_text names.old) → HasNoBare (get_by_text names.new) }
 {
     if let Some(entry) = gone {
         if !has_name_at(&entry.name, tables, at) {
@@ -102,6 +108,8 @@ pub(crate) fn change_at(
     requires { at < length tables.old.items }
     ensures tables { tables.new.items ≡ at_place (with_own own) at tables.old.items }
     ensures named { AreNamed tables.new.items (named_in names.old) → AreNamed tables.new.items (named_in names.new) }
+    ensures exact { AreExactBut tables.old.items (named_in names.old) at own.entry → AreExact tables.new.items (named_in names.new) }
+    ensures filled { HasNoBare (get_by_text names.old) → HasNoBare (get_by_text names.new) }
 {
     let before = mem::replace(&mut tables[at].own, Some(own));
     if let Some(own) = before {
@@ -119,6 +127,8 @@ fn end_at(
 )
     ensures tables { tables.new.items ≡ at_place (ended x fate) at tables.old.items }
     ensures named { AreNamed tables.old.items (named_in names.old) → AreNamed tables.new.items (named_in names.new) }
+    ensures exact { AreExact tables.old.items (named_in names.old) → AreExact tables.new.items (named_in names.new) }
+    ensures filled { HasNoBare (get_by_text names.old) → HasNoBare (get_by_text names.new) }
 {
     if at < tables.len() {
         let gone = end(&mut tables[at], x, fate);
@@ -134,9 +144,13 @@ pub(crate) fn end_all(
     x: Xact,
     fate: Fate,
 )
-    requires { AreNamed tables.old.items (named_in names.old) }
+    requires named { AreNamed tables.old.items (named_in names.old) }
+    requires exact { AreExact tables.old.items (named_in names.old) }
+    requires filled { HasNoBare (get_by_text names.old) }
     ensures tables { tables.new.items ≡ fold (λ tables at. at_place (ended x fate) at tables) tables.old.items places.now }
     ensures named { AreNamed tables.new.items (named_in names.new) }
+    ensures exact { AreExact tables.new.items (named_in names.new) }
+    ensures filled { HasNoBare (get_by_text names.new) }
 {
     for at in places {
         end_at(tables, names, *at, x, fate);

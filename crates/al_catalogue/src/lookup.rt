@@ -1,4 +1,4 @@
-ghost use Rattle.std.specs.Prelude.{◌≡◌, ◌==◌, ◌||◌, ◌&&◌, ℕ, true, OnOk, slice_get};
+ghost use Rattle.std.specs.Prelude.{◌≡◌, ◌==◌, ◌||◌, ◌&&◌, ℕ, List, true, false, OnOk, slice_get};
 ghost use Rattle.std.specs.Option.{option_copied, option_map, option_map_or, option_and_then};
 ghost use Rattle.std.specs.List.{list_any};
 ghost use Rattle.al_tree.specs.Links.{has_link};
@@ -53,7 +53,8 @@ pub(crate) fn taker_of(name: &Name, x: Xact, kept: &Kept) -> Option<Xact>
 
 /// Ends a transaction's change of a table, and gives what isn't kept of it any more.
 pub(crate) fn end(kept: &mut Kept, x: Xact, fate: Fate) -> Option<TableEntry>
-    ensures { kept.new ≡ ended x fate kept.old }
+    ensures kept { kept.new ≡ ended x fate kept.old }
+    ensures gone { (name : List ℕ) → (has_name name kept.old || false) ≡ (has_name name (ended x fate kept.old) || is_called name result) }
 {
     if !is_own(x, kept) {
         return None;

@@ -1,5 +1,7 @@
-ghost use Rattle.std.specs.Prelude.{◌≡◌, ℕ, List, [], ◌∷◌, ◌++◌, OnOk, OnErr, IsTrue};
-ghost use Rattle.al_catalogue.specs.Indexed.{ChangesNamed, ChangesOwned, named_in, owned_in, with_place, without_place};
+ghost use Rattle.std.specs.Prelude.{◌≡◌, ℕ, List, [], ◌∷◌, ◌++◌, true, Some, OnOk, OnErr, IsTrue};
+ghost use Rattle.std.specs.Str.{bytes_eq};
+ghost use Rattle.indexmap.specs.IndexMap.{get_by_text};
+ghost use Rattle.al_catalogue.specs.Indexed.{ChangesNamed, ChangesOwned, HasNoBare, named_in, owned_in, with_place, without_place};
 
 use crate::Places;
 use al_values::{Name, NoMemory};
@@ -26,6 +28,7 @@ pub(crate) fn add_name(
 ) -> Result<(), NoMemory>
     ensures ok { OnOk result (ChangesNamed (named_in names.old) (named_in names.new) name.now (with_place at)) }
     ensures err { OnErr result ((asked : List ℕ) → named_in names.new asked ≡ named_in names.old asked) }
+    ensures filled { HasNoBare (get_by_text names.old) → HasNoBare (get_by_text names.new) }
 {
     match names.get_mut(name.as_str()) {
         Some(places) => places.add(at),
@@ -42,6 +45,7 @@ pub(crate) fn add_name(
 fn strip_name(names: &mut IndexMap<String, Places>, name: &Name, at: usize) -> bool
     ensures places { ChangesNamed (named_in names.old) (named_in names.new) name.now (without_place at) }
     ensures empty { IsTrue result → named_in names.new name.now ≡ [] }
+    ensures bare { HasNoBare (get_by_text names.old) → (asked : List ℕ) → get_by_text names.new asked ≡ Some [] → (result ≡ true) × (bytes_eq name.now asked ≡ true) }
 {
     match names.get_mut(name.as_str()) {
         Some(places) => {
@@ -54,7 +58,8 @@ fn strip_name(names: &mut IndexMap<String, Places>, name: &Name, at: usize) -> b
 
 /// Takes a place from a name.
 pub(crate) fn cut_name(names: &mut IndexMap<String, Places>, name: &Name, at: usize)
-    ensures { ChangesNamed (named_in names.old) (named_in names.new) name.now (without_place at) }
+    ensures places { ChangesNamed (named_in names.old) (named_in names.new) name.now (without_place at) }
+    ensures filled { HasNoBare (get_by_text names.old) → HasNoBare (get_by_text names.new) }
 {
     if strip_name(names, name, at) {
         names.swap_remove(name.as_str());

@@ -13,7 +13,9 @@ use std::fmt::{Display, Formatter, Write};
 use std::thread::{Builder, Threads};
 
 const THREAD_STACK: usize = 2 * 1024 * 1024;
+
 const LEVELS: u32 = 200;
+
 const OPERATORS: u32 = 30_000;
 
 /// An expression by its text, and what it is: its kind and value.

@@ -311,28 +311,91 @@ fn check_row(
     Ok(())
 }
 
+// What a transaction does with row 0.
+#[derive(Clone, Copy)]
+enum Act {
+    // Gives it a version of this number, or removes it where none is told.
+    Changes(Option<u32>),
+    // May not change it.
+    MayNot,
+    Commits,
+    Aborts,
+}
+
+// What a transaction does, and what the two readers of the first transaction see of row 0 from then on: the early one, and the one
+// that reads now.
+type Row0 = (usize, Act, Option<u32>, Option<u32>);
+
+fn perform(
+    rt: &(impl Abort + AllocGlobal),
+    case: &mut Case,
+    by: usize,
+    act: Act,
+) -> Result<(), Fail> {
+    let x = nth(rt, &case.all, by);
+    match act {
+        Act::Changes(number) => {
+            let change = Change { by, row: 0, number };
+            assert!(rt; make_change(rt, case, change)?);
+        }
+        Act::MayNot => assert!(rt; !case.heap.can_change(x, 0, &case.xacts)),
+        Act::Commits => end(rt, &mut case.xacts, x, true),
+        Act::Aborts => end(rt, &mut case.xacts, x, false),
+    }
+    Ok(())
+}
+
+fn check_acts(rt: &(impl Abort + AllocGlobal), case: &mut Case, rows: &[Row0]) -> Result<(), Fail> {
+    check_row(rt, case, Some(0), Some(0))?;
+    for (by, done, early, late) in rows {
+        perform(rt, case, *by, *done)?;
+        check_row(rt, case, *early, *late)?;
+    }
+    Ok(())
+}
+
+// Own changes are seen at once, by both readers, and keep the others from changing the row.
+#[test]
+fn own_changes(rt: HostRuntime) -> Result<(), Fail> {
+    let mut case = new_case(&rt)?;
+    let rows = [
+        (0, Act::Changes(Some(11)), Some(11), Some(11)),
+        (1, Act::MayNot, Some(11), Some(11)),
+        (0, Act::Changes(Some(12)), Some(12), Some(12)),
+        (0, Act::Changes(None), None, None),
+        (0, Act::MayNot, None, None),
+    ];
+    check_acts(&rt, &mut case, &rows)
+}
+
+// Changes of others are seen once they are committed, by the reader that reads now alone.
+#[test]
+fn changes_of_others(rt: HostRuntime) -> Result<(), Fail> {
+    let mut case = new_case(&rt)?;
+    let rows = [
+        (1, Act::Changes(Some(11)), Some(0), Some(0)),
+        (1, Act::Commits, Some(0), Some(11)),
+        (2, Act::Changes(None), Some(0), Some(11)),
+        (0, Act::MayNot, Some(0), Some(11)),
+        (2, Act::Aborts, Some(0), Some(11)),
+    ];
+    check_acts(&rt, &mut case, &rows)
+}
+
+// A change that is rolled back and a removal that is committed. The versions are all there then, and can be taken out and put back.
 #[test]
 fn one_row(rt: HostRuntime) -> Result<(), Fail> {
     let mut case = new_case(&rt)?;
-    let update = |by, number| Change { by, row: 0, number };
-    check_row(&rt, &case, Some(0), Some(0))?;
-    // An open change by another, which is then rolled back.
-    assert!(rt; make_change(&rt, &mut case, update(1, Some(11)))?);
-    check_row(&rt, &case, Some(0), Some(0))?;
-    assert!(rt; !make_change(&rt, &mut case, update(2, Some(12)))?);
-    let second = case.all[1];
-    end(&rt, &mut case.xacts, second, false);
-    check_row(&rt, &case, Some(0), Some(0))?;
-    // A removal that is committed is one for who reads from then on.
-    assert!(rt; make_change(&rt, &mut case, update(2, Some(13)))?);
-    assert!(rt; make_change(&rt, &mut case, update(2, None))?);
-    check_row(&rt, &case, Some(0), Some(0))?;
-    let third = case.all[2];
-    end(&rt, &mut case.xacts, third, true);
-    check_row(&rt, &case, Some(0), None)?;
-    assert!(rt; !make_change(&rt, &mut case, update(0, Some(14)))?);
-
-    // The versions are all there, and can be taken out and put back.
+    let rows = [
+        (1, Act::Changes(Some(11)), Some(0), Some(0)),
+        (2, Act::MayNot, Some(0), Some(0)),
+        (1, Act::Aborts, Some(0), Some(0)),
+        (2, Act::Changes(Some(13)), Some(0), Some(0)),
+        (2, Act::Changes(None), Some(0), Some(0)),
+        (2, Act::Commits, Some(0), None),
+        (0, Act::MayNot, Some(0), None),
+    ];
+    check_acts(&rt, &mut case, &rows)?;
     assert_eq!(rt; case.heap.newest(0), Some(3));
     assert_eq!(rt; case.heap.standing(0, &case.xacts), Some(3));
     let heap = case.heap.take_out();
@@ -341,6 +404,6 @@ fn one_row(rt: HostRuntime) -> Result<(), Fail> {
     assert_eq!(rt; case.heap.len(), 4);
     let last = case.heap.at(3);
     assert_eq!(rt; (last.number, last.removal), (13, 99));
-    assert_eq!(rt; last.remover, Some(third));
+    assert_eq!(rt; last.remover, Some(case.all[2]));
     Ok(())
 }

@@ -278,7 +278,7 @@ fn all_short_histories(rt: HostRuntime) -> Result<(), Fail> {
             return Ok(());
         }
         let taken = visit(&rt, &codes)?;
-        let longer = taken && codes.len() < 4;
+        let longer = taken && codes.len() < 5;
         advance(&mut codes, longer)?;
     }
     assert!(rt; codes.is_empty());

@@ -204,7 +204,8 @@ fn names_after_the_end(rt: HostRuntime) -> Result<(), Fail> {
     check_claims(&rt, rt.alloc(), &claims)
 }
 
-// A table that is renamed twice by one transaction has the last name alone, and its first name is free for another table.
+// A table that is renamed twice by one transaction has the last name alone, and its first name is free for another table. Nothing
+// is kept of a name once nobody can find a table by it.
 #[test]
 fn renamed_twice(rt: HostRuntime) -> Result<(), Fail> {
     let alloc = rt.alloc();
@@ -215,7 +216,9 @@ fn renamed_twice(rt: HostRuntime) -> Result<(), Fail> {
     put(alloc, &mut catalogue, a, 1, entry(alloc, "t", 9)?)?;
     put(alloc, &mut catalogue, a, 1, entry(alloc, "v", 9)?)?;
     assert_eq!(rt; has_name(alloc, &catalogue, b, "t")?, Claimed::Free);
+    assert!(rt; !catalogue.keeps_name(&name(alloc, "t")?));
     put(alloc, &mut catalogue, b, 2, entry(alloc, "t", 9)?)?;
+    assert!(rt; catalogue.keeps_name(&name(alloc, "t")?));
     catalogue.finish(a, Fate::Committed);
     assert_eq!(rt; catalogue.find(&name(alloc, "v")?, b), Some(1));
     assert_eq!(rt; catalogue.find(&name(alloc, "t")?, b), Some(2));
@@ -224,6 +227,8 @@ fn renamed_twice(rt: HostRuntime) -> Result<(), Fail> {
     assert_eq!(rt; has_name(alloc, &catalogue, b, "t")?, Claimed::Free);
     assert!(rt; catalogue.entry(2, b).is_none());
     assert!(rt; catalogue.entry(1, b).is_some());
+    assert!(rt; !catalogue.keeps_name(&name(alloc, "t")?));
+    assert!(rt; catalogue.keeps_name(&name(alloc, "v")?));
     Ok(())
 }
 

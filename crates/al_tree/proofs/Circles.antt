@@ -12,7 +12,7 @@ use Rattle.al_tree.proofs.LineLemmas.{links-are, link-child, links-put, put-are_
 
 -- ---- descent
 
-below-below : (links : List Inherits) (a b t : ℕ) → Descends links a b → Descends links b t → Descends links a t
+pub below-below : (links : List Inherits) (a b t : ℕ) → Descends links a b → Descends links b t → Descends links a t
 below-below links a b t d (Descends.child_of _ h) = Descends.child_below t b d h
 below-below links a b t d (Descends.child_below _ m e h) = Descends.child_below t m (below-below links a b m d e) h
 

@@ -5,4 +5,5 @@ mod LineLemmas
 mod Searches
 mod Families
 mod Circles
+mod Turned
 mod Vectors

@@ -1,10 +1,11 @@
 -- Numbers put into a list in order, and taken out of it.
-use Rattle.std.proofs.Common.{◌≡◌, ℕ, ◌+◌, ◌<◌, Bool, true, false, cond, not, ◌||◌, ◌&&◌, List, [], ◌∷◌, refl, sym, ◌∙◌, arith, nat_lt}
+use Rattle.std.proofs.Common.{◌≡◌, ℕ, ◌+◌, ◌<◌, Bool, true, false, cond, not, ◌||◌, ◌&&◌, List, [], ◌∷◌, refl, sym, ◌∙◌, ap, subst, arith, nat_lt, zero, suc, Option, Some, None, position}
 use Rattle.std.specs.Prelude.{◌==◌}
-use Rattle.std.specs.List.{insert, position_or_len}
+use Rattle.std.specs.List.{insert, position_or_len, remove}
 use Rattle.std.proofs.lemmas.Grind.{common_steps}
 use Rattle.std.proofs.lemmas.Bool.{ltb-true, ltb-false, eqb-true, eqb-false, ne_eqb}
 use Rattle.al_tree.specs.Ascending.{AllAbove, Ascends, is_among, put, without}
+use Rattle.al_tree.proofs.Places.{IsAt, is_at, none_passes}
 
 insert-put_by : (x : ℕ) (xs : List ℕ) (number n : ℕ) (b : Bool) → insert xs n number ≡ put number xs
     → insert (x ∷ xs) (cond (not b) (1 + n) 0) number ≡ cond b (number ∷ x ∷ xs) (x ∷ put number xs)
@@ -110,3 +111,25 @@ without-ascends n (x ∷ xs) all = by (x == n) (without-ascends n xs all.1) wher
 pub above-out : (n : ℕ) (xs : List ℕ) → AllAbove n xs → is_among n xs ≡ false
 above-out n [] all = refl
 above-out n (x ∷ xs) all = rw (ne_eqb x n (λ e. absurd (omega (arith, all.0)))) (above-out n xs all.1)
+
+-- one is taken out
+
+without-out : (n : ℕ) (xs : List ℕ) → is_among n xs ≡ false → without n xs ≡ xs
+without-out n [] out = refl
+without-out n (x ∷ xs) out = by (x == n) out (without-out n xs) where
+  by : (b : Bool) → (b || is_among n xs) ≡ false → (is_among n xs ≡ false → without n xs ≡ xs) → cond (not b) (x ∷ without n xs) (without n xs) ≡ x ∷ xs
+  by true o more = absurd (cc)
+  by false o more = ap (λ ys. x ∷ ys) (more o)
+
+remove-at : (n : ℕ) (xs : List ℕ) (at : ℕ) → Ascends xs → IsAt (λ (x : ℕ). x == n) xs at → remove xs at ≡ without n xs
+remove-at n [] at all h = absurd h
+remove-at n (x ∷ xs) zero all h = rw h (sym (without-out n xs (above-out n xs (subst (λ (m : ℕ). AllAbove m xs) (eqb-true x n h) all.0))))
+remove-at n (x ∷ xs) (suc at) all h = rw h.0 (ap (λ ys. x ∷ ys) (remove-at n xs at all.1 h.1))
+
+pub removed : (n : ℕ) (xs slice : List ℕ) (found : Option ℕ) (at : ℕ) → slice ≡ xs → found ≡ position (λ (x : ℕ). x == n) slice → found ≡ Some at → Ascends xs → remove xs at ≡ without n xs
+removed n xs slice found at same e f all =
+    remove-at n xs at all (is_at (λ (x : ℕ). x == n) xs at (ap (position (λ (x : ℕ). x == n)) (sym same) ∙ sym e ∙ f))
+
+pub none-removed : (n : ℕ) (xs slice : List ℕ) (found : Option ℕ) → slice ≡ xs → found ≡ position (λ (x : ℕ). x == n) slice → found ≡ None → xs ≡ without n xs
+none-removed n xs slice found same e f =
+    sym (without-out n xs (none_passes (λ (x : ℕ). x == n) xs (ap (position (λ (x : ℕ). x == n)) (sym same) ∙ sym e ∙ f)))

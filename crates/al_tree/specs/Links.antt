@@ -67,3 +67,7 @@ HasOneMore before after child parent =
 abbrev pub HasOneLess : List Inherits → List Inherits → ℕ → ℕ → Type 0
 HasOneLess before after child parent =
     (c p : ℕ) → has_link after c p ≡ (has_link before c p && not ((child == c) && (parent == p)))
+
+-- the same links, turned round
+abbrev pub AreTurned : List Inherits → List Inherits → Type 0
+AreTurned links turned = (c p : ℕ) → has_link turned p c ≡ has_link links c p

@@ -4,6 +4,7 @@
 mod fault;
 mod laws;
 mod line;
+mod one_way;
 mod search;
 #[cfg(test)]
 mod tests;

@@ -94,11 +94,31 @@ pub(crate) fn is_other(number: u32, other: u32) -> bool
     other != number
 }
 
+/// The place of a number, where it is there, by bisection.
+fn place_of(number: u32, numbers: &[u32]) -> Option<usize>
+    requires { Ascends numbers.now }
+    ensures { result ≡ position (λ other. other == number) numbers.now }
+{
+    let above = number_place(number, numbers);
+    if above == 0 {
+        return None;
+    }
+    let at = above - 1;
+    if numbers[at] == number {
+        Some(at)
+    } else {
+        None
+    }
+}
+
 /// All but one number.
 fn cut(numbers: &mut Vec<u32>, number: u32)
+    requires { Ascends numbers.old.items }
     ensures { numbers.new.items ≡ without number numbers.old.items }
 {
-    numbers.retain(|other| is_other(number, *other));
+    if let Some(at) = place_of(number, numbers) {
+        numbers.remove(at);
+    }
 }
 
 /// A child more.
@@ -115,6 +135,7 @@ fn put_child(alloc: Global, children: &mut IdList, child: u32) -> Result<(), NoM
 
 /// A child less.
 fn cut_child(alloc: Global, children: &mut IdList, child: u32)
+    requires { Ascends children.old }
     ensures { children.new ≡ without child children.old }
 {
     let mut numbers = mem::replace(children, ListOf::new(alloc)).into_vec();
@@ -142,7 +163,8 @@ pub(crate) fn add_child(
 
 /// Takes a child from a table.
 pub(crate) fn cut_line(alloc: Global, lines: &mut Vec<Line>, child: u32, parent: u32)
-    requires { Ascends (tables_of lines.old.items) }
+    requires tables { Ascends (tables_of lines.old.items) }
+    requires children { AllAscend lines.old.items }
     ensures { lines.new.items ≡ with_children parent (without child) lines.old.items }
 {
     if let Some(at) = line_of(parent, lines) {

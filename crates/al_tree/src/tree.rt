@@ -1,12 +1,11 @@
-ghost use Rattle.std.specs.Prelude.{◌≡◌, ℕ, [], ◌↔◌, true, IfOk, OnOk, OnErr};
+ghost use Rattle.std.specs.Prelude.{◌≡◌, [], ◌↔◌, true, IfOk, OnOk, OnErr};
 ghost use Rattle.al_tree.specs.Ascending.{Ascends};
-ghost use Rattle.al_tree.specs.Links.{Inherits, has_link, children_of, IsFamily, IsAnswer, fault_of, HasOneMore, HasOneLess, HasNoCircle, ClosesCircle};
+ghost use Rattle.al_tree.specs.Links.{Descends, has_link, children_of, IsFamily, IsAnswer, fault_of, HasOneMore, HasOneLess, HasNoCircle, ClosesCircle};
 
+use crate::LinkFault;
 use crate::fault::fault_of;
-use crate::line::{add_child, add_line, cut_line, is_among, line_of};
-use crate::search::{descendants, listed};
-use crate::{Line, LinkFault};
-use al_values::{Cant, IdList, ListOf, NoMemory};
+use crate::one_way::OneWay;
+use al_values::{Cant, IdList, NoMemory};
 use std::alloc::Global;
 use std::marker::Model;
 
@@ -14,21 +13,20 @@ use std::marker::Model;
 /// the list of the links, by ascending parent.
 #[derive(Debug, Drop)]
 pub struct Tree {
-    lines: Vec<Line>,
-    none: IdList,
-    alloc: Global,
+    down: OneWay,
+    // The same links turned, so that the parents of a table are found as its children are.
+    up: OneWay,
 }
 
 impl Model for Tree {
-    ghost use Rattle.std.specs.Prelude.{◌≡◌, List, []};
-    ghost use Rattle.al_tree.specs.Links.{Inherits};
-    ghost use Rattle.al_tree.specs.Lines.{AreLines, links_in};
+    ghost use Rattle.std.specs.Prelude.{List};
+    ghost use Rattle.al_tree.specs.Links.{Inherits, AreTurned};
 
     ghost Value = { List Inherits };
 
-    ghost view = { λ t. links_in t.lines.items };
+    ghost view = { λ t. t.down };
 
-    ghost invariant = { λ t. AreLines t.lines.items × (t.none ≡ []) };
+    ghost invariant = { λ t. AreTurned t.down t.up };
 }
 
 impl Tree {
@@ -37,9 +35,8 @@ impl Tree {
         ensures { result ≡ [] }
     {
         Tree {
-            lines: Vec::new(alloc),
-            none: ListOf::new(alloc),
-            alloc,
+            down: OneWay::new(alloc),
+            up: OneWay::new(alloc),
         }
     }
 
@@ -48,10 +45,7 @@ impl Tree {
         ensures value { result.now ≡ children_of self.now table }
         ensures ascends { Ascends result.now }
     {
-        match line_of(table, &self.lines) {
-            Some(at) => &self.lines[at].children,
-            None => &self.none,
-        }
+        self.down.children(table)
     }
 
     /// The table, then its descendants by ascending number, each once. It takes the time of these, whatever the tree holds beside them.
@@ -62,11 +56,10 @@ impl Tree {
     pub fn family(&self, alloc: Global, table: u32) -> Result<IdList, NoMemory>
         ensures { IfOk result (IsFamily self.now table) }
     {
-        let met = descendants(alloc, &self.lines, table)?;
-        listed(alloc, table, &met)
+        self.down.family(alloc, table)
     }
 
-    /// Makes a table a child of another.
+    /// Makes a table a child of another. It takes the time of the ancestors of that.
     ///
     /// # Errors
     ///
@@ -79,7 +72,7 @@ impl Tree {
         ensures circles { HasNoCircle self.old → HasNoCircle self.new }
     {
         let closes = self.closes_circle(alloc, child, parent)?;
-        let there = self.has(child, parent);
+        let there = self.down.has(child, parent);
         if let Some(fault) = fault_of(closes, there) {
             return Err(Cant::Why(fault));
         }
@@ -87,22 +80,21 @@ impl Tree {
         Ok(())
     }
 
-    /// Whether a table is a child of another.
-    fn has(&self, child: u32, parent: u32) -> bool
-        ensures { result ≡ has_link self.now child parent }
-    {
-        is_among(child, self.children(parent).as_slice())
-    }
-
-    /// Whether a link would close a circle.
+    // Whether a link would close a circle.
     fn closes_circle(&self, alloc: Global, child: u32, parent: u32) -> Result<bool, NoMemory>
         ensures { IfOk result (λ closes. (closes ≡ true) ↔ ClosesCircle self.now child parent) }
     {
         if child == parent {
             return Ok(true);
         }
-        let met = descendants(alloc, &self.lines, child)?;
-        Ok(is_among(parent, &met))
+        self.is_ancestor(alloc, child, parent)
+    }
+
+    // Whether a table is an ancestor of another, by the ancestors of that.
+    fn is_ancestor(&self, alloc: Global, table: u32, of: u32) -> Result<bool, NoMemory>
+        ensures { IfOk result (λ above. (above ≡ true) ↔ Descends self.now table of) }
+    {
+        self.up.descends(alloc, table, of)
     }
 
     /// Notes a link as it is found, without looking for circles. One that is there already stays.
@@ -114,12 +106,15 @@ impl Tree {
         ensures ok { OnOk result (HasOneMore self.old self.new child parent) }
         ensures err { OnErr result (self.new ≡ self.old) }
     {
-        if self.has(child, parent) {
+        if self.down.has(child, parent) {
             return Ok(());
         }
-        add_line(alloc, &mut self.lines, child)?;
-        add_line(alloc, &mut self.lines, parent)?;
-        add_child(alloc, &mut self.lines, child, parent)
+        self.up.note(alloc, parent, child)?;
+        let done = self.down.note(alloc, child, parent);
+        if done.is_err() {
+            self.up.unlink(parent, child);
+        }
+        done
     }
 
     /// Ends a link. The answer is false where there was none. It takes no memory.
@@ -128,8 +123,7 @@ impl Tree {
         ensures links { HasOneLess self.old self.new child parent }
         ensures circles { HasNoCircle self.old → HasNoCircle self.new }
     {
-        let there = self.has(child, parent);
-        cut_line(self.alloc, &mut self.lines, child, parent);
-        there
+        self.up.unlink(parent, child);
+        self.down.unlink(child, parent)
     }
 }

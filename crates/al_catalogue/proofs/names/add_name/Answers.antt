@@ -3,6 +3,7 @@ use Rattle.std.proofs.lemmas.Result.{on_ok_weaker, on_err_weaker, IfOk-at_ok}
 use Rattle.indexmap.specs.IndexMap.{get_by_text}
 use Rattle.al_catalogue.specs.Indexed.{named_in, with_place}
 use Rattle.al_catalogue.proofs.Indexing.{changes-named, changes-none}
+use Rattle.al_catalogue.proofs.Exact.{filled-after, filled-new}
 use Rattle.al_catalogue.proofs.names.add_name.Goals as goal
 
 pub returns-in-Some-clause-ok : goal.returns-in-Some-clause-ok
@@ -34,3 +35,16 @@ returns-in_ok-insert-in-None-clause-ok c =
     rw (← h)
     (changes-named (string_bytes c.in_ok-from_str-in-None.field-0) c.args.name.now c.get_mut.follows.lender-at-none c.insert.new.self (Some c.add-in-None.new.self) (with_place c.args.at) key_is
     c.in_ok-insert-in-None.ensures.updates (c.in_ok-add-in-None.ensures.ok ∙ ap (with_place c.args.at) (c.new-places.ensures ∙ none ∙ sym same)))
+
+pub returns-in-Some-clause-filled : goal.returns-in-Some-clause-filled
+returns-in-Some-clause-filled c =
+    let w : List ℕ = c.add.new.self in
+    filled-after c.as_str.result.now c.args.names.now (c.get_mut.follows.lender w) c.add.result c.args.at c.in-Some.places.now w ((c.get_mut.follows.holds w).3 (search rules))
+    c.in-Some.ensures.value c.add.ensures.ok c.add.ensures.err
+
+pub returns-in_ok-insert-in-None-clause-filled : goal.returns-in_ok-insert-in-None-clause-filled
+returns-in_ok-insert-in-None-clause-filled c =
+    let h = c.get_mut.follows.holds-at-none in
+    rw (← h)
+    (filled-new (string_bytes c.in_ok-from_str-in-None.field-0) c.get_mut.follows.lender-at-none c.insert.new.self c.args.at [] c.add-in-None.new.self
+    c.in_ok-insert-in-None.ensures.updates (c.in_ok-add-in-None.ensures.ok ∙ ap (with_place c.args.at) c.new-places.ensures))

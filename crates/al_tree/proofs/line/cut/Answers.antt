@@ -1,6 +1,9 @@
-use Rattle.std.proofs.Common.{rules, not, ◌==◌, ℕ}
-use Rattle.al_tree.proofs.Places.{filter-from_retain}
+use Rattle.std.proofs.Common.{◌∙◌}
+use Rattle.al_tree.proofs.Sorted.{removed, none-removed}
 use Rattle.al_tree.proofs.line.cut.Goals as goal
 
-pub returns : goal.returns
-returns c = filter-from_retain _ (λ (other : ℕ). not (other == c.args.number)) _ (λ x b g h. search rules) _ _ c.retain.ensures.filtered
+pub returns-in-Some : goal.returns-in-Some
+returns-in-Some c = c.remove.ensures.items ∙ removed c.args.number _ _ _ _ c.deref.ensures.value c.place_of.ensures c.in-Some.is c.requires
+
+pub returns-in_default : goal.returns-in_default
+returns-in_default c = none-removed c.args.number _ _ _ c.deref.ensures.value c.place_of.ensures c.in_default.is

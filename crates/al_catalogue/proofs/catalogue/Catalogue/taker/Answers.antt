@@ -13,12 +13,12 @@ returns-in-Some c =
     c.taker_at.ensures
     ∙ ap (λ (ks : List Kept). option_and_then (λ (kept : Kept). taker_of c.args.name.now c.args.x kept.committed kept.own) (slice_get ks c.in-Some.at)) c.deref-in-Some.ensures.value
     ∙ taker-some c.args.name.now c.args.x ts c.in-Some.at
-    (search-some Moved c.args.name.now c.args.x ts c.deref.result.now _ _ c.in-Some.at (named_in c.self.inside.names) c.self.invariant.names c.deref.ensures.value c.named-places.ensures c.first_among.ensures c.in-Some.is)
+    (search-some Moved c.args.name.now c.args.x ts c.deref.result.now _ _ c.in-Some.at (named_in c.self.inside.names) c.self.invariant.0.names c.deref.ensures.value c.named-places.ensures c.first_among.ensures c.in-Some.is)
     ∙ ap (λ (ks : List Kept). taker_in ks c.args.name.now c.args.x) c.self.view_is
 
 pub returns-in-None : goal.returns-in-None
 returns-in-None c =
     let ts : List Kept = c.self.inside.tables.items in
     sym (taker-none c.args.name.now c.args.x ts
-    (search-none Moved c.args.name.now c.args.x ts c.deref.result.now _ _ (named_in c.self.inside.names) c.self.invariant.names c.deref.ensures.value c.named-places.ensures c.first_among.ensures c.in-None.is))
+    (search-none Moved c.args.name.now c.args.x ts c.deref.result.now _ _ (named_in c.self.inside.names) c.self.invariant.0.names c.deref.ensures.value c.named-places.ensures c.first_among.ensures c.in-None.is))
     ∙ ap (λ (ks : List Kept). taker_in ks c.args.name.now c.args.x) c.self.view_is

@@ -2,7 +2,7 @@ use Rattle.std.proofs.Common.{◌∙◌, sym, ap, subst, List}
 use Rattle.al_tree.specs.Ascending.{Ascends}
 use Rattle.al_tree.specs.Links.{Inherits, children_of}
 use Rattle.al_tree.proofs.LineLemmas.{children-found, children-none, children-are, ascend-in}
-use Rattle.al_tree.proofs.tree.Tree.children.Goals as goal
+use Rattle.al_tree.proofs.one_way.OneWay.children.Goals as goal
 
 pub returns-in-Some-clause-value : goal.returns-in-Some-clause-value
 returns-in-Some-clause-value c =

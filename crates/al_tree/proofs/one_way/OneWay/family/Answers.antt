@@ -1,5 +1,5 @@
 use Rattle.al_tree.proofs.Families.{family-listed}
-use Rattle.al_tree.proofs.tree.Tree.family.Goals as goal
+use Rattle.al_tree.proofs.one_way.OneWay.family.Goals as goal
 
 pub returns : goal.returns
 returns c =

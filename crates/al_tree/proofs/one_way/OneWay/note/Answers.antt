@@ -4,7 +4,7 @@ use Rattle.al_tree.specs.declared.line.Line.{Line}
 use Rattle.al_tree.specs.Links.{has_link, HasOneMore}
 use Rattle.al_tree.specs.Lines.{AreLines, links_in}
 use Rattle.al_tree.proofs.Circles.{Lined, lined, Noted, noted, there-already, kept-either, told-err}
-use Rattle.al_tree.proofs.tree.Tree.note.Goals as goal
+use Rattle.al_tree.proofs.one_way.OneWay.note.Goals as goal
 
 pub returns-then-has-clause-ok : goal.returns-then-has-clause-ok
 returns-then-has-clause-ok c =
