@@ -404,6 +404,6 @@ fn one_row(rt: HostRuntime) -> Result<(), Fail> {
     assert_eq!(rt; case.heap.len(), 4);
     let last = case.heap.at(3);
     assert_eq!(rt; (last.number, last.removal), (13, 99));
-    assert_eq!(rt; last.remover, Some(case.all[2]));
+    assert_eq!(rt; last.remover, Some(nth(&rt, &case.all, 2)));
     Ok(())
 }
