@@ -19,18 +19,37 @@ pub enum Form {
 
 /// Evaluates a CHECK of ten nodes on so many rows, as often, and gives how many rows passed, all together.
 pub fn checks(alloc: Global, form: Form, rows: u32, times: u32) -> Result<u64, NoMemory> {
+    match form {
+        Form::Named => named_checks(alloc, rows, times),
+        Form::Bound => bound_checks(alloc, rows, times),
+    }
+}
+
+fn named_checks(alloc: Global, rows: u32, times: u32) -> Result<u64, NoMemory> {
     let check = check(alloc)?;
     let columns = columns(alloc)?;
-    let bound = bind_condition(alloc, &check, &columns)?;
     let rows = rows_of(alloc, rows)?;
     let mut passed: u64 = 0;
     for _ in 0..times {
-        passed = passed.wrapping_add(match form {
-            Form::Named => passing(alloc, &check, &columns, &rows)?,
-            Form::Bound => passing_bound(alloc, &bound, &rows)?,
-        });
+        passed = passed.wrapping_add(passing(alloc, &check, &columns, &rows)?);
     }
     Ok(passed)
+}
+
+fn bound_checks(alloc: Global, rows: u32, times: u32) -> Result<u64, NoMemory> {
+    let check = bound_check(alloc)?;
+    let rows = rows_of(alloc, rows)?;
+    let mut passed: u64 = 0;
+    for _ in 0..times {
+        passed = passed.wrapping_add(passing_bound(alloc, &check, &rows)?);
+    }
+    Ok(passed)
+}
+
+fn bound_check(alloc: Global) -> Result<Bound, NoMemory> {
+    let check = check(alloc)?;
+    let columns = columns(alloc)?;
+    bind_condition(alloc, &check, &columns)
 }
 
 fn passing(
