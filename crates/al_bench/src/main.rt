@@ -24,6 +24,8 @@ use words::{Task, task_of, words_of};
 const USAGE: &str = "\
 usage: al_bench queue shared|shared-asks|queued|queued-asks SESSIONS TIMES
        al_bench turn insert|select|refused TURNS JOURNALS TIMES
+       al_bench among insert|select|refused TABLES TURNS TIMES
+       al_bench read ROWS COLUMNS TIMES
        al_bench spec TIMES <FILE
        al_bench tokens TIMES <FILE
        al_bench sql TIMES <FILE
@@ -72,6 +74,17 @@ fn perform(rt: &HostRuntime, alloc: Global, task: Task) -> Result<u64, Stop> {
             beside,
             times,
         } => turn::journals(alloc, kind, turns, beside, times)?,
+        Task::Among {
+            kind,
+            tables,
+            turns,
+            times,
+        } => turn::among_tables(alloc, kind, tables, turns, times)?,
+        Task::Read {
+            rows,
+            columns,
+            times,
+        } => turn::reads(alloc, rows, columns, times)?,
         Task::Spec { times } => input::specs(alloc, &input_of(rt, alloc)?, times)?,
         Task::Tokens { times } => input::texts(alloc, input_of(rt, alloc)?, times)?,
         Task::Sql { times } => input::scripts(alloc, input_of(rt, alloc)?, times)?,

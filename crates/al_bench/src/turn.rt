@@ -11,8 +11,10 @@ use std::alloc::Global;
 use std::marker::Brand;
 use std::sync::ledger::{Blank, Ledger};
 
-// More turns than a step of one statement takes.
+// More turns than a step of one statement takes, and than one of as many as there may be tables.
 const MOST_TURNS: u32 = 8;
+
+const MOST_TURNS_OF_TABLES: u32 = 8 * 500;
 
 /// The statement of each step. The table has one column, and no row but those that are inserted.
 #[derive(Clone, Copy)]
@@ -53,25 +55,55 @@ fn side_by_side(alloc: Global, kind: Kind, turns: u32, beside: u32) -> Result<u6
 }
 
 fn engine_of(alloc: Global, kind: Kind, turns: u32) -> Result<Engine, NoMemory> {
-    let mut engine = Engine::open(alloc, scripts(alloc, kind)?, u32::MAX)?;
-    run_block(alloc, &mut engine, 0)?;
-    go_on(alloc, &mut engine, turns)?;
+    let mut engine = Engine::open(alloc, scripts(alloc, kind, 1)?, u32::MAX)?;
+    run_block(alloc, &mut engine, 0, MOST_TURNS)?;
+    go_on(alloc, &mut engine, 1, turns)?;
     Ok(engine)
 }
 
-fn go_on(alloc: Global, engine: &mut Engine, turns: u32) -> Result<(), NoMemory>
+/// Makes a journal of so many steps beside so many tables, so often, and gives the count of their entries.
+pub fn among_tables(
+    alloc: Global,
+    kind: Kind,
+    tables: u32,
+    turns: u32,
+    times: u32,
+) -> Result<u64, NoMemory> {
+    let mut entries: u64 = 0;
+    for _ in 0..times {
+        let mut engine = Engine::open(alloc, scripts(alloc, kind, tables)?, u32::MAX)?;
+        run_block(alloc, &mut engine, 0, MOST_TURNS_OF_TABLES)?;
+        go_on(alloc, &mut engine, 1, turns)?;
+        entries = entries.wrapping_add(u64::from(engine.history().len()));
+    }
+    Ok(entries)
+}
+
+/// Gives a block so often.
+fn go_on(alloc: Global, engine: &mut Engine, block: u32, turns: u32) -> Result<(), NoMemory>
     requires known { 0 < engine.old.terms.scripts.sessions }
-    requires of_session { option_map (λ b. b.session) (slice_get engine.old.terms.scripts.blocks 1) ≡ Some 0 }
+    requires of_session { option_map (λ b. b.session) (slice_get engine.old.terms.scripts.blocks block) ≡ Some 0 }
     requires not_closed { closed engine.old.past 0 ≡ false }
+    ensures not_closed { OnOk result (closed engine.new.past 0 ≡ false) }
+    ensures terms { OnOk result (engine.new.terms ≡ engine.old.terms) }
 {
     for _ in 0..turns {
-        run_block(alloc, engine, 1)?;
+        run_block(alloc, engine, block, MOST_TURNS)?;
     }
     Ok(())
 }
 
+/// Reads a table of so many rows and columns, so often, and gives the count of the journal's entries.
+pub fn reads(alloc: Global, rows: u32, columns: u32, times: u32) -> Result<u64, NoMemory> {
+    let mut engine = Engine::open(alloc, row_scripts(alloc, columns)?, u32::MAX)?;
+    run_block(alloc, &mut engine, 0, MOST_TURNS)?;
+    go_on(alloc, &mut engine, 1, rows)?;
+    go_on(alloc, &mut engine, 2, times)?;
+    Ok(u64::from(engine.history().len()))
+}
+
 /// Gives a block to the session, and goes on with it to its end.
-fn run_block(alloc: Global, engine: &mut Engine, block: u32) -> Result<(), NoMemory>
+fn run_block(alloc: Global, engine: &mut Engine, block: u32, most: u32) -> Result<(), NoMemory>
     requires known { 0 < engine.old.terms.scripts.sessions }
     requires of_session { option_map (λ b. b.session) (slice_get engine.old.terms.scripts.blocks block) ≡ Some 0 }
     requires not_closed { closed engine.old.past 0 ≡ false }
@@ -81,7 +113,7 @@ fn run_block(alloc: Global, engine: &mut Engine, block: u32) -> Result<(), NoMem
     let Ok(()) = engine.give(alloc, 0, block) else {
         return Err(NoMemory);
     };
-    for _turn in 0..MOST_TURNS {
+    for _turn in 0..most {
         if !take_turn(alloc, engine)? {
             break;
         }
@@ -121,16 +153,13 @@ fn turn_in<L: Ledger>(
     }
 }
 
-/// CREATE TABLE as block 0, and the statement of each turn as block 1.
-fn scripts(alloc: Global, kind: Kind) -> Result<Scripts, NoMemory>
+/// CREATE TABLEs as block 0, and the statement of each turn as block 1.
+fn scripts(alloc: Global, kind: Kind, tables: u32) -> Result<Scripts, NoMemory>
     ensures sessions { IfOk result (λ s. s.sessions ≡ 1) }
     ensures blocks { IfOk result (λ s. (a b : ScriptBlock) × (s.blocks ≡ a ∷ b ∷ []) × (a.session ≡ 0) × (b.session ≡ 0)) }
     ensures known { IfOk result AreOfSessions }
 {
-    let mut columns = NameList::new(alloc);
-    columns.push(Name::new(alloc, "a")?)?;
-    let table = Name::new(alloc, "t")?;
-    let create = block_of(alloc, Statement::CreateTable { table, columns })?;
+    let create = tables_block(alloc, tables)?;
     let turn = block_of(alloc, statement_of(alloc, kind)?)?;
     let mut blocks = ListOf::new(alloc);
     blocks.push(create)?;
@@ -141,14 +170,62 @@ fn scripts(alloc: Global, kind: Kind) -> Result<Scripts, NoMemory>
     })
 }
 
+fn create(alloc: Global, table: Name, width: u32) -> Result<Statement, NoMemory> {
+    let mut columns = NameList::new(alloc);
+    columns.push(Name::new(alloc, "a")?)?;
+    for number in 1..width {
+        let name = format!(in alloc; "a{number}")?;
+        columns.push(Name::new(alloc, name.as_str())?)?;
+    }
+    Ok(Statement::CreateTable { table, columns })
+}
+
+/// The table of the statements behind so many, less one, whose names are numbered.
+fn tables_block(alloc: Global, tables: u32) -> Result<ScriptBlock, NoMemory>
+    ensures session { IfOk result (λ b. b.session ≡ 0) }
+{
+    let mut script = ListOf::new(alloc);
+    for number in 1..tables {
+        let name = format!(in alloc; "t{number}")?;
+        script.push(create(alloc, Name::new(alloc, name.as_str())?, 1)?)?;
+    }
+    script.push(create(alloc, Name::new(alloc, "t")?, 1)?)?;
+    let script = Ok(script);
+    Ok(ScriptBlock { session: 0, script })
+}
+
+/// CREATE TABLE with so many columns as block 0, INSERT of a whole row as block 1, and SELECT as block 2.
+fn row_scripts(alloc: Global, columns: u32) -> Result<Scripts, NoMemory>
+    ensures sessions { IfOk result (λ s. s.sessions ≡ 1) }
+    ensures blocks { IfOk result (λ s. (a b c : ScriptBlock) × (s.blocks ≡ a ∷ b ∷ c ∷ []) × (a.session ≡ 0) × (b.session ≡ 0) × (c.session ≡ 0)) }
+    ensures known { IfOk result AreOfSessions }
+{
+    let create = block_of(alloc, create(alloc, Name::new(alloc, "t")?, columns)?)?;
+    let insert = block_of(alloc, insert(alloc, columns)?)?;
+    let select = block_of(alloc, statement_of(alloc, Kind::Select)?)?;
+    let mut blocks = ListOf::new(alloc);
+    blocks.push(create)?;
+    blocks.push(insert)?;
+    blocks.push(select)?;
+    Ok(Scripts {
+        sessions: 1,
+        blocks,
+    })
+}
+
+fn insert(alloc: Global, width: u32) -> Result<Statement, NoMemory> {
+    let table = Name::new(alloc, "t")?;
+    let mut values = Row::new(alloc);
+    for _ in 0..width {
+        values.push(Value::Int(7))?;
+    }
+    Ok(Statement::Insert { table, values })
+}
+
 fn statement_of(alloc: Global, kind: Kind) -> Result<Statement, NoMemory> {
     let table = Name::new(alloc, "t")?;
     match kind {
-        Kind::Insert => {
-            let mut values = Row::new(alloc);
-            values.push(Value::Int(7))?;
-            Ok(Statement::Insert { table, values })
-        }
+        Kind::Insert => insert(alloc, 1),
         Kind::Select => Ok(Statement::Select { table }),
         Kind::Refused => {
             let name = Name::new(alloc, "a")?;

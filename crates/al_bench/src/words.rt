@@ -25,6 +25,19 @@ pub enum Task {
         beside: u32,
         times: u32,
     },
+    /// So many steps in a journal beside so many tables.
+    Among {
+        kind: Kind,
+        tables: u32,
+        turns: u32,
+        times: u32,
+    },
+    /// SELECT of a table of so many rows and columns.
+    Read {
+        rows: u32,
+        columns: u32,
+        times: u32,
+    },
     /// A spec file from standard input.
     Spec {
         times: u32,
@@ -113,6 +126,11 @@ pub fn task_of(words: &[Word]) -> Option<Task> {
             rows: number_of(rows)?,
             times: number_of(times)?,
         }),
+        [what, rows, columns, times] if what.as_str() == "read" => Some(Task::Read {
+            rows: number_of(rows)?,
+            columns: number_of(columns)?,
+            times: number_of(times)?,
+        }),
         [what, kind, sessions, times] if what.as_str() == "queue" => Some(Task::Queue {
             round: round_of(kind.as_str())?,
             sessions: number_of(sessions)?,
@@ -122,6 +140,12 @@ pub fn task_of(words: &[Word]) -> Option<Task> {
             kind: kind_of(kind.as_str())?,
             turns: number_of(turns)?,
             beside: number_of(beside)?,
+            times: number_of(times)?,
+        }),
+        [what, kind, tables, turns, times] if what.as_str() == "among" => Some(Task::Among {
+            kind: kind_of(kind.as_str())?,
+            tables: number_of(tables)?,
+            turns: number_of(turns)?,
             times: number_of(times)?,
         }),
         [part, of, call, transactions, each, tables, times] if part.as_str() == "part" => {
