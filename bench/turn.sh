@@ -5,7 +5,8 @@
 # as much it is as in a journal of a tenth of the entries: a step that walked the journal would take 10 times as long. So
 # that each line takes as much memory, as many journals are kept side by side as have a million entries together; and glibc
 # is told to keep it for the next ones, since pages that are new to a process take longer than a turn. Where valgrind is
-# there, the instructions of such a step follow, of one journal alone.
+# there, the instructions of such a step follow, of one journal alone; then those of a step beside 1 and 500 tables, and of a SELECT
+# by the rows and columns of its table.
 # Usage: bench/turn.sh [RUNS]   (how often each is timed; 15 where not given)
 set -eu
 cd "$(dirname "$0")/.."
@@ -30,4 +31,32 @@ for kind in insert:8 select:8 refused:7; do
       "$count" "$(growth "$fewer" "$count")"
     before=$ns fewer=$count
   done
+done
+
+# Instructions of a step beside so many tables, in journals of as many entries, and of a SELECT for each row of its table.
+command -v valgrind >/dev/null || exit 0
+printf '\n%10s %8s' statement tables
+printf ' %12s' 'at 10,000' 'at 100,000' 'at 1,000,000'
+printf '\n'
+for kind in insert:8 select:8 refused:7; do
+  for tables in 1 500; do
+    printf '%10s %8d' "${kind%:*}" "$tables"
+    for length in 10000 100000 1000000; do
+      turns=$((length / ${kind#*:})) half=$((length / ${kind#*:} / 2))
+      more=$(instructions among "${kind%:*}" "$tables" "$turns" 1) less=$(instructions among "${kind%:*}" "$tables" "$half" 1)
+      printf ' %12s' "$(per "$more" "$less" $((turns - half)))"
+    done
+    printf '\n'
+  done
+done
+
+printf '\n%10s' 'a SELECT'
+printf ' %14s' 'of 100 rows' 'of 10,000' 'of 100,000'
+printf '\n'
+for columns in 2 20; do
+  printf '%2d columns' "$columns"
+  for rows in 100 10000 100000; do
+    printf ' %14s' "$(per "$(instructions read "$rows" "$columns" 3)" "$(instructions read "$rows" "$columns" 1)" 2)"
+  done
+  printf '\n'
 done
