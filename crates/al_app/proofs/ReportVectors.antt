@@ -4,12 +4,12 @@ use Rattle.std.specs.Fmt.{digits}
 use Rattle.al_values.specs.declared.scalar.Value.TheVariants as values
 use Rattle.al_modes.specs.declared.level.Level.TheVariants as levels
 use Rattle.al_modes.specs.declared.mode.Mode.TheVariants as modes
-use Rattle.al_history.specs.declared.entry.Cause.TheVariants as causes
+use Rattle.al_statements.specs.declared.cause.Cause.TheVariants as causes
 use Rattle.al_history.specs.declared.entry.Entry.{Entry}
 use Rattle.al_history.specs.declared.entry.Entry.TheVariants as entries
-use Rattle.al_history.specs.declared.entry.Reply.TheVariants as replies
-use Rattle.al_history.specs.declared.entry.RunLimit.TheVariants as limits
-use Rattle.al_history.specs.declared.entry.Tag.TheVariants as tags
+use Rattle.al_statements.specs.declared.reply.Reply.TheVariants as replies
+use Rattle.al_statements.specs.declared.cause.RunLimit.TheVariants as limits
+use Rattle.al_statements.specs.declared.reply.Tag.TheVariants as tags
 use Rattle.al_history.specs.declared.entry.Want.TheVariants as wants
 use Rattle.al_history.specs.declared.run.Run.{Run}
 use Rattle.al_history.specs.declared.run.Setup.{Setup}
@@ -17,7 +17,8 @@ use Rattle.al_history.specs.declared.run.Setup.TheVariants as setups
 use Rattle.al_spec.specs.declared.spec.Block.{Block}
 use Rattle.al_spec.specs.declared.spec.Part.TheVariants as parts
 use Rattle.al_spec.specs.declared.spec.Spec.{Spec}
-use Rattle.al_app.specs.Report.{report, run_text, blocked_text, name_text, step_text, cause_text, row_count_text, waits}
+use Rattle.al_app.specs.Report.{report, run_text, blocked_text, name_text, step_text, row_count_text, waits}
+use Rattle.al_app.specs.Causes.{cause_text}
 use Rattle.al_spec.specs.Tokens.{word_of}
 
 -- one session, two setup blocks, two steps and the permutation of both

@@ -1,5 +1,7 @@
+pub mod Built
 pub mod Scripts
 pub mod Runs
+pub mod Causes
 pub mod Report
 pub mod Numbers
 pub mod Answers

@@ -6,14 +6,11 @@ use Rattle.al_values.specs.declared.scalar.Value.{Value}
 use Rattle.al_values.specs.Printed.{printed}
 use Rattle.al_history.specs.declared.entry.Entry.{Entry}
 use Rattle.al_history.specs.declared.entry.Entry.TheVariants as entries
-use Rattle.al_history.specs.declared.entry.Cause.{Cause}
-use Rattle.al_history.specs.declared.entry.Cause.TheVariants as causes
-use Rattle.al_history.specs.declared.entry.RunLimit.{RunLimit}
-use Rattle.al_history.specs.declared.entry.RunLimit.TheVariants as limits
-use Rattle.al_history.specs.declared.entry.Reply.{Reply}
-use Rattle.al_history.specs.declared.entry.Reply.TheVariants as replies
-use Rattle.al_history.specs.declared.entry.Tag.{Tag}
-use Rattle.al_history.specs.declared.entry.Tag.TheVariants as tags
+use Rattle.al_statements.specs.declared.cause.Cause.{Cause}
+use Rattle.al_statements.specs.declared.reply.Reply.{Reply}
+use Rattle.al_statements.specs.declared.reply.Reply.TheVariants as replies
+use Rattle.al_statements.specs.declared.reply.Tag.{Tag}
+use Rattle.al_statements.specs.declared.reply.Tag.TheVariants as tags
 use Rattle.al_history.specs.declared.run.Run.{Run}
 use Rattle.al_history.specs.declared.run.Setup.{Setup}
 use Rattle.al_history.specs.declared.run.Setup.TheVariants as setups
@@ -23,6 +20,7 @@ use Rattle.al_spec.specs.declared.spec.Part.TheVariants as parts
 use Rattle.al_spec.specs.declared.spec.Spec.{Spec}
 use Rattle.al_spec.specs.Tokens.{is_plain}
 use Rattle.al_history.specs.Past.{Past}
+use Rattle.al_app.specs.Causes.{cause_text}
 
 -- ---- names of sessions and steps
 
@@ -39,44 +37,20 @@ name_text name = if is_plain name then name else codes "\"" ++ (flat_map doubled
 abbrev pub text_at : {T : Type 0} → (T → List ℕ) → List T → ℕ → List ℕ
 text_at text things place = option_map_or text (slice_get things place) []
 
--- why an INSERT with more values than its table has columns is refused
-abbrev pub many_values_text : ℕ → ℕ → List ℕ
-many_values_text want got =
-    concat (codes "42601: INSERT has " ∷ decimal got ∷ codes " values for " ∷ decimal want ∷ codes " columns" ∷ [])
-
--- why a block that is no script is refused
-abbrev pub syntax_text : ℕ → List ℕ
-syntax_text at = concat (codes "42601: syntax error at byte " ∷ decimal at ∷ [])
-
-abbrev pub not_built_text : ℕ → List ℕ
-not_built_text at = concat (codes "0A000: not supported at byte " ∷ decimal at ∷ [])
-
--- what a run has a limit of
-abbrev pub limit_name : RunLimit → List ℕ
-limit_name limits.Tables = codes "tables"
-limit_name limits.Columns = codes "columns"
-limit_name limits.Journal = codes "journal"
-
--- why a statement is refused: its SQLSTATE, and what is missing or in the way
-abbrev pub cause_text : Cause → List ℕ
-cause_text (causes.Syntax at) = syntax_text at
-cause_text (causes.NotInProfile at) = not_built_text at
-cause_text (causes.NoTable name) = concat (codes "42P01: table \"" ∷ name ∷ codes "\" does not exist" ∷ [])
-cause_text (causes.TwiceTable name) = concat (codes "42P07: table \"" ∷ name ∷ codes "\" already exists" ∷ [])
-cause_text (causes.TwiceColumn name) = concat (codes "42701: column \"" ∷ name ∷ codes "\" already exists" ∷ [])
-cause_text (causes.Count want got) = many_values_text want got
-cause_text (causes.BlockFailed refuse) = codes "25P02: transaction block has failed"
-cause_text (causes.Limit what count) = concat (codes "54000: limit of " ∷ limit_name what ∷ codes " passed" ∷ [])
-cause_text (causes.Cancelled entry) = codes "57014: cancelled"
-
--- a command tag, an INSERT's with its count
+-- a command tag, with its count where it speaks of rows
 abbrev pub tag_text : Tag → ℕ → List ℕ
 tag_text tags.Begin count = codes "BEGIN"
+tag_text tags.StartTransaction count = codes "START TRANSACTION"
 tag_text tags.Commit count = codes "COMMIT"
 tag_text tags.Rollback count = codes "ROLLBACK"
+tag_text tags.Set count = codes "SET"
+tag_text tags.LockTable count = codes "LOCK TABLE"
 tag_text tags.CreateTable count = codes "CREATE TABLE"
+tag_text tags.DropTable count = codes "DROP TABLE"
 tag_text tags.AlterTable count = codes "ALTER TABLE"
 tag_text tags.Insert count = codes "INSERT 0 " ++ decimal count
+tag_text tags.Update count = codes "UPDATE " ++ decimal count
+tag_text tags.Delete count = codes "DELETE " ++ decimal count
 
 -- how many rows a SELECT gave
 abbrev pub row_count_text : ℕ → List ℕ

@@ -3,6 +3,7 @@ ghost use Rattle.std.specs.List.{count_by};
 ghost use Rattle.al_app.specs.Report.{report, run_text, journal_text, title_text, setup_text, permutation_text, names_text, step_name, is_step, gives_step, giving_end, blocked_text, rest_text, not_given_text, text_at};
 
 mod blocks;
+mod causes;
 mod names;
 mod replies;
 

@@ -2,17 +2,19 @@
 ghost use Rattle.std.specs.Prelude.{IfOk};
 ghost use Rattle.al_app.specs.Scripts.{IsReadAs, IsScriptOf, EachWith, AreScripts};
 
-use al_blocks::read_block;
+use crate::built::built_script;
 use al_history::{Block, Script, ScriptBlock, ScriptList, Scripts, Spec, SqlFault};
+use al_sql::read_script;
 use al_values::{Cant, ListOf, NoMemory, Txt, count_of};
 use std::alloc::Global;
 
-/// What a text is read as: its statements, or why it has none.
-fn read_text(alloc: Global, text: &Txt) -> Result<Result<Script, SqlFault>, NoMemory>
+/// What the text of a block is read as: its statements, or why it has none. A script with a statement that isn't built is
+/// refused at its first byte.
+fn read_block(alloc: Global, text: &Txt) -> Result<Result<Script, SqlFault>, NoMemory>
     ensures { IfOk result (λ read. IsReadAs text.now read) }
 {
-    match read_block(alloc, text) {
-        Ok(script) => Ok(Ok(script)),
+    match read_script(alloc, text) {
+        Ok(trees) => built_script(alloc, trees.as_slice()),
         Err(Cant::Why(fault)) => Ok(Err(fault)),
         Err(Cant::NoMemory) => Err(NoMemory),
     }
@@ -21,7 +23,7 @@ fn read_text(alloc: Global, text: &Txt) -> Result<Result<Script, SqlFault>, NoMe
 fn script_of(alloc: Global, block: &Block) -> Result<ScriptBlock, NoMemory>
     ensures { IfOk result (λ script. IsScriptOf block.now script) }
 {
-    let script = read_text(alloc, &block.text)?;
+    let script = read_block(alloc, &block.text)?;
     Ok(ScriptBlock {
         session: block.session,
         script,

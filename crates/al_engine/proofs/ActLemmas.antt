@@ -5,12 +5,12 @@ use Rattle.al_values.specs.declared.scalar.Value.{Value}
 use Rattle.al_modes.specs.declared.mode.Mode.TheVariants.{AccessShare, RowExclusive, AccessExclusive}
 use Rattle.al_queue.specs.Waits.{holds}
 use Rattle.al_history.specs.Constraint.{Constraint}
-use Rattle.al_history.specs.declared.entry.Cause.{Cause}
-use Rattle.al_history.specs.declared.entry.Cause.TheVariants as causes
-use Rattle.al_history.specs.declared.entry.RunLimit.TheVariants as limits
+use Rattle.al_statements.specs.declared.cause.Cause.{Cause}
+use Rattle.al_statements.specs.declared.cause.Cause.TheVariants as causes
+use Rattle.al_statements.specs.declared.cause.RunLimit.TheVariants as limits
 use Rattle.al_history.specs.declared.entry.Entry.TheVariants.{Look, Add, Read, Alter}
-use Rattle.al_history.specs.declared.entry.Reply.TheVariants as replies
-use Rattle.al_history.specs.declared.entry.Tag.TheVariants as tags
+use Rattle.al_statements.specs.declared.reply.Reply.TheVariants as replies
+use Rattle.al_statements.specs.declared.reply.Tag.TheVariants as tags
 use Rattle.al_history.specs.declared.statement.Column.{Column}
 use Rattle.al_history.specs.declared.statement.Statement.TheVariants as statements
 use Rattle.al_history.specs.declared.statement.Terms.{Terms}

@@ -3,11 +3,11 @@ use Rattle.std.proofs.Common.{◌≡◌, ℕ, ◌<◌, ◌≤◌, List, [], ◌�
 use Rattle.std.specs.Prelude.{nat_lt, IsSome, option_map, option_and_then, Result, Ok, Err}
 use Rattle.std.proofs.lemmas.Bool.{lt-ltb, le-ltb}
 use Rattle.std.proofs.lemmas.Option.{slice_get-map, get_or_from_slice_get}
-use Rattle.al_history.specs.declared.entry.Reply.{Reply}
-use Rattle.al_history.specs.declared.entry.Reply.TheVariants as replies
+use Rattle.al_statements.specs.declared.reply.Reply.{Reply}
+use Rattle.al_statements.specs.declared.reply.Reply.TheVariants as replies
 use Rattle.al_history.specs.declared.entry.Want.{Want}
 use Rattle.al_history.specs.declared.statement.ScriptBlock.{ScriptBlock}
-use Rattle.al_history.specs.declared.statement.SqlFault.{SqlFault}
+use Rattle.al_statements.specs.declared.fault.SqlFault.{SqlFault}
 use Rattle.al_history.specs.declared.statement.Statement.{Statement}
 use Rattle.al_history.specs.declared.statement.Statement.TheVariants as statements
 use Rattle.al_history.specs.declared.statement.Terms.{Terms}

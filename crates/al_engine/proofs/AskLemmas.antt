@@ -5,9 +5,9 @@ use Rattle.std.proofs.lemmas.Bool.{eqb-true}
 use Rattle.al_queue.specs.declared.grant.Asked.TheVariants.{Granted, Queued}
 use Rattle.al_queue.specs.InWay.{grantable as is_grantable, asked}
 use Rattle.al_queue.specs.Settled.{IsSettled}
-use Rattle.al_history.specs.declared.entry.RunLimit.TheVariants as limits
-use Rattle.al_history.specs.declared.entry.Cause.{Cause}
-use Rattle.al_history.specs.declared.entry.Cause.TheVariants as causes
+use Rattle.al_statements.specs.declared.cause.RunLimit.TheVariants as limits
+use Rattle.al_statements.specs.declared.cause.Cause.{Cause}
+use Rattle.al_statements.specs.declared.cause.Cause.TheVariants as causes
 use Rattle.al_history.specs.declared.entry.Want.{Want}
 use Rattle.al_history.specs.declared.entry.Want.TheVariants as wants
 use Rattle.al_history.specs.declared.entry.Entry.{Entry}

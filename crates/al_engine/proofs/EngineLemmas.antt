@@ -4,7 +4,7 @@ use Rattle.std.specs.Prelude.{◌==◌, is_some, Result, Ok, Err}
 use Rattle.std.proofs.Math.Nat.{le-max_right}
 use Rattle.std.proofs.lemmas.Bool.{ne_eqb}
 use Rattle.std.proofs.lemmas.Option.{slice_get_within}
-use Rattle.al_history.specs.declared.entry.Cause.TheVariants as causes
+use Rattle.al_statements.specs.declared.cause.Cause.TheVariants as causes
 use Rattle.al_history.specs.declared.entry.Entry.TheVariants.{Give, Abort, Cancel, Close}
 use Rattle.al_history.specs.declared.entry.Want.{Want}
 use Rattle.al_history.specs.declared.statement.ScriptBlock.{ScriptBlock}
@@ -32,7 +32,7 @@ use Rattle.al_engine.specs.Kept.{parts_of, past_in, listed_in, Parts, IsAmid, Is
 use Rattle.al_engine.specs.Closing.{HasLeft}
 use Rattle.al_engine.specs.Giving.{IsTakenUp}
 use Rattle.al_engine.specs.declared.machine.Machine.{Machine}
-use Rattle.al_history.specs.declared.statement.SqlFault.{SqlFault}
+use Rattle.al_statements.specs.declared.fault.SqlFault.{SqlFault}
 use Rattle.al_history.specs.declared.statement.Statement.{Statement}
 use Rattle.al_sessions.specs.Blocks.{control_of}
 use Rattle.std.proofs.lemmas.List.{length-map}

@@ -1,11 +1,11 @@
 -- A step without a statement ends, and one whose text is no script is refused.
 use Rattle.std.proofs.Common.{◌≡◌, ℕ, ◌+◌, ◌<◌, ◌≤◌, ◌∷◌, refl, sym, ap, true, false, Option, Some, None, arith, ◌∙◌, inl, slice_get, slice_set}
 use Rattle.std.specs.Prelude.{IsSome}
-use Rattle.al_history.specs.declared.entry.Cause.{Cause}
-use Rattle.al_history.specs.declared.entry.Cause.TheVariants as causes
+use Rattle.al_statements.specs.declared.cause.Cause.{Cause}
+use Rattle.al_statements.specs.declared.cause.Cause.TheVariants as causes
 use Rattle.al_history.specs.declared.entry.Entry.TheVariants.{End}
-use Rattle.al_history.specs.declared.statement.SqlFault.{SqlFault}
-use Rattle.al_history.specs.declared.statement.SqlFault.TheVariants as faults
+use Rattle.al_statements.specs.declared.fault.SqlFault.{SqlFault}
+use Rattle.al_statements.specs.declared.fault.SqlFault.TheVariants as faults
 use Rattle.al_history.specs.declared.statement.Terms.{Terms}
 use Rattle.al_history.specs.Past.{Past, past_of}
 use Rattle.al_history.specs.Hand.{hand, fault_of, statement_of, implicit_of}

@@ -1,10 +1,10 @@
 -- A statement of an open transaction goes on: what is known of it between two calls, after its Look and after its act.
 use Rattle.std.proofs.Common.{◌≡◌, ℕ, ◌≤◌, [], ◌∷◌, length, refl, sym, ap, true, false, Bool, Option, Some, None, arith, ◌∙◌, slice_get, subst}
 use Rattle.std.specs.Prelude.{◌&&◌, not, IsSome, is_some, option_and_then}
-use Rattle.al_history.specs.declared.entry.Cause.{Cause}
+use Rattle.al_statements.specs.declared.cause.Cause.{Cause}
 use Rattle.al_history.specs.declared.entry.Entry.{Entry}
 use Rattle.al_history.specs.declared.entry.Entry.TheVariants.{Look}
-use Rattle.al_history.specs.declared.entry.Reply.{Reply}
+use Rattle.al_statements.specs.declared.reply.Reply.{Reply}
 use Rattle.al_spec.specs.declared.spec.Spec.{Spec}
 use Rattle.al_history.specs.declared.statement.Statement.{Statement}
 use Rattle.al_history.specs.declared.statement.Terms.{Terms}

@@ -1,7 +1,7 @@
 -- The tail of a statement that is done or refused, through the locks that its transaction's end frees.
 use Rattle.std.proofs.Common.{◌≡◌, ℕ, List, [], ◌∷◌, refl, true, false, Bool, None, arith, ◌∙◌, inl}
-use Rattle.al_history.specs.declared.entry.Cause.{Cause}
-use Rattle.al_history.specs.declared.entry.Reply.{Reply}
+use Rattle.al_statements.specs.declared.cause.Cause.{Cause}
+use Rattle.al_statements.specs.declared.reply.Reply.{Reply}
 use Rattle.al_history.specs.declared.entry.Entry.{Entry}
 use Rattle.al_history.specs.declared.entry.Entry.TheVariants.{Done, Refuse}
 use Rattle.al_history.specs.declared.statement.Terms.{Terms}

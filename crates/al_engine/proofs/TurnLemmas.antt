@@ -8,7 +8,7 @@ use Rattle.al_modes.specs.declared.level.Level.TheVariants as levels
 use Rattle.al_history.specs.declared.entry.Entry.{Entry}
 use Rattle.al_history.specs.declared.entry.Entry.TheVariants.{Start, Give, End}
 use Rattle.al_history.specs.declared.statement.Terms.{Terms}
-use Rattle.al_history.specs.declared.statement.SqlFault.{SqlFault}
+use Rattle.al_statements.specs.declared.fault.SqlFault.{SqlFault}
 use Rattle.al_history.specs.declared.statement.ScriptBlock.{ScriptBlock}
 use Rattle.al_history.specs.declared.statement.Statement.{Statement}
 use Rattle.al_history.specs.Past.{Past, past_of}

@@ -4,10 +4,10 @@ use Rattle.std.specs.Prelude.{◌+◌, is_some, get_or, option_and_then, not}
 use Rattle.std.proofs.lemmas.Option.{slice_get_read}
 use Rattle.al_modes.specs.declared.mode.Mode.{Mode}
 use Rattle.al_queue.specs.Waits.{holds}
-use Rattle.al_history.specs.declared.entry.Cause.{Cause}
-use Rattle.al_history.specs.declared.entry.Cause.TheVariants as causes
+use Rattle.al_statements.specs.declared.cause.Cause.{Cause}
+use Rattle.al_statements.specs.declared.cause.Cause.TheVariants as causes
 use Rattle.al_history.specs.declared.entry.Entry.TheVariants.{Look}
-use Rattle.al_history.specs.declared.entry.Reply.{Reply}
+use Rattle.al_statements.specs.declared.reply.Reply.{Reply}
 use Rattle.al_history.specs.declared.statement.Statement.{Statement}
 use Rattle.al_history.specs.declared.statement.Statement.TheVariants as statements
 use Rattle.al_history.specs.declared.statement.Terms.{Terms}

@@ -10,7 +10,7 @@ use Rattle.al_engine.specs.Sessions.{xacts_in}
 use Rattle.al_engine.specs.Stored.{all_kept, seen_by, makers_in, first_among}
 use Rattle.al_engine.specs.Using.{create_weight}
 use Rattle.al_history.specs.Cause.{first_of, tables_cause}
-use Rattle.al_history.specs.declared.entry.Cause.{Cause}
+use Rattle.al_statements.specs.declared.cause.Cause.{Cause}
 
 -- the transaction that is in the way of its name, by what is kept
 abbrev pub taker_in : Parts → ℕ → List ℕ → Option ℕ

@@ -1,9 +1,9 @@
 -- Where BEGIN, COMMIT or ROLLBACK can be done: its transaction is open, or has ended.
 use Rattle.std.specs.Prelude.{◌≡◌, ℕ, ◌+◌, ◌<◌, ◌≤◌, ◌∷◌, Bool, true, false, cond, Option, Some, None, slice_get}
 use Rattle.al_history.specs.declared.entry.Entry.TheVariants.{Done}
-use Rattle.al_history.specs.declared.entry.Reply.{Reply}
-use Rattle.al_history.specs.declared.entry.Reply.TheVariants as replies
-use Rattle.al_history.specs.declared.entry.Tag.TheVariants as tags
+use Rattle.al_statements.specs.declared.reply.Reply.{Reply}
+use Rattle.al_statements.specs.declared.reply.Reply.TheVariants as replies
+use Rattle.al_statements.specs.declared.reply.Tag.TheVariants as tags
 use Rattle.al_history.specs.declared.statement.Terms.{Terms}
 use Rattle.al_history.specs.Past.{Past, past_of}
 use Rattle.al_history.specs.Hand.{hand, dones, refused, xact_of, if_no_block, closed, block_state, block_after}

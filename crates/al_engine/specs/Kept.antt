@@ -14,10 +14,10 @@ use Rattle.al_queue.specs.Settled.{IsSettled}
 use Rattle.al_engine.specs.declared.sessions.Session.{Session}
 use Rattle.al_engine.specs.declared.stored.StoredTable.{StoredTable}
 use Rattle.al_engine.specs.declared.machine.Machine.{Machine}
-use Rattle.al_history.specs.declared.entry.Cause.{Cause}
-use Rattle.al_history.specs.declared.entry.Cause.TheVariants as causes
-use Rattle.al_history.specs.declared.entry.RunLimit.TheVariants as limits
-use Rattle.al_history.specs.declared.entry.Reply.{Reply}
+use Rattle.al_statements.specs.declared.cause.Cause.{Cause}
+use Rattle.al_statements.specs.declared.cause.Cause.TheVariants as causes
+use Rattle.al_statements.specs.declared.cause.RunLimit.TheVariants as limits
+use Rattle.al_statements.specs.declared.reply.Reply.{Reply}
 use Rattle.al_history.specs.declared.entry.Entry.TheVariants.{Refuse, End}
 use Rattle.al_history.specs.Cause.{over, cause_of}
 use Rattle.al_history.specs.Need.{lacking}

@@ -3,7 +3,7 @@ use Rattle.std.specs.Prelude.{◌≡◌, ℕ, nat_lt, cond, false, List, [], ◌
 use Rattle.std.specs.Option.{option_map_or}
 use Rattle.al_history.specs.declared.statement.Terms.{Terms}
 use Rattle.al_history.specs.declared.statement.ScriptBlock.{ScriptBlock}
-use Rattle.al_history.specs.declared.statement.SqlFault.{SqlFault}
+use Rattle.al_statements.specs.declared.fault.SqlFault.{SqlFault}
 use Rattle.al_history.specs.declared.statement.Statement.{Statement}
 use Rattle.al_sessions.specs.declared.block.Control.{Control}
 use Rattle.al_sessions.specs.declared.block.Control.TheVariants.{Begins, EndsBlock}

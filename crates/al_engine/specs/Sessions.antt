@@ -5,7 +5,7 @@ use Rattle.al_history.specs.declared.entry.Want.{Want}
 use Rattle.al_history.specs.declared.entry.Want.TheVariants as wants
 use Rattle.al_history.specs.declared.statement.Terms.{Terms}
 use Rattle.al_history.specs.declared.statement.ScriptBlock.{ScriptBlock}
-use Rattle.al_history.specs.declared.statement.SqlFault.{SqlFault}
+use Rattle.al_statements.specs.declared.fault.SqlFault.{SqlFault}
 use Rattle.al_history.specs.declared.statement.Statement.{Statement}
 use Rattle.al_history.specs.declared.statement.Statement.TheVariants as statements
 use Rattle.al_history.specs.Fate.{is_that}

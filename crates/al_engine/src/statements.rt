@@ -1,7 +1,7 @@
 //! The statements of an open transaction. Each is judged, what it takes is copied and reserved, and then the tables and the journal
 //! change together.
 ghost use Rattle.std.specs.Prelude.{◌≡◌, ℕ, List, [], ◌+◌, ◌<◌, ◌≤◌, ◌^◌, ◌∷◌, ◌++◌, option_map, not, cond, true, Some, None, IsSome, IfOk, OnOk, OnErr, slice_get, slice_set, length};
-ghost use Rattle.al_history.specs.declared.entry.Cause.TheVariants as causes;
+ghost use Rattle.al_statements.specs.declared.cause.Cause.TheVariants as causes;
 ghost use Rattle.al_history.specs.declared.entry.Entry.TheVariants.{Wait, Make};
 ghost use Rattle.al_history.specs.declared.entry.Want.TheVariants as wants;
 ghost use Rattle.al_history.specs.declared.statement.Statement.TheVariants as statements;

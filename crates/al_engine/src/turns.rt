@@ -1,6 +1,6 @@
 //! A turn of a session that can go on: a transaction begins or ends, or the statement in hand goes on.
 ghost use Rattle.std.specs.Prelude.{◌≡◌, ◌<◌, ◌≤◌, ◌+◌, ◌++◌, ◌-◌, true, false, cond, Some, None, IsSome, IfOk, OnOk, OnErr, slice_get, slice_set, length, option_map, option_and_then, replicate, ℕ, ◌^◌, ◌∷◌, nat_lt};
-ghost use Rattle.al_history.specs.declared.entry.Tag.TheVariants as tags;
+ghost use Rattle.al_statements.specs.declared.reply.Tag.TheVariants as tags;
 ghost use Rattle.al_history.specs.declared.statement.Statement.TheVariants as statements;
 ghost use Rattle.al_history.specs.declared.entry.Entry.TheVariants.{End};
 ghost use Rattle.al_history.specs.Cause.{text_cause};

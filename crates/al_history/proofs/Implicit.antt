@@ -3,10 +3,10 @@ use Rattle.std.proofs.Common.{◌≡◌, ℕ, ◌+◌, zero, suc, List, [], ◌�
 use Rattle.std.specs.Prelude.{◌==◌, IsSome, is_some, option_map, option_and_then, slice_get, Result, Ok, Err}
 use Rattle.std.proofs.lemmas.Bool.{eqb-true}
 use Rattle.al_history.specs.declared.entry.Entry.TheVariants.{Give, Start, Wait, Lock, Look, Make, Add, Read, Alter, Done, Refuse, Commit, Abort, Cancel, End, Close}
-use Rattle.al_history.specs.declared.entry.Reply.{Reply}
-use Rattle.al_history.specs.declared.entry.Reply.TheVariants as replies
-use Rattle.al_history.specs.declared.entry.Tag.TheVariants as tags
-use Rattle.al_history.specs.declared.statement.SqlFault.{SqlFault}
+use Rattle.al_statements.specs.declared.reply.Reply.{Reply}
+use Rattle.al_statements.specs.declared.reply.Reply.TheVariants as replies
+use Rattle.al_statements.specs.declared.reply.Tag.TheVariants as tags
+use Rattle.al_statements.specs.declared.fault.SqlFault.{SqlFault}
 use Rattle.al_history.specs.declared.statement.ScriptBlock.{ScriptBlock}
 use Rattle.al_history.specs.declared.statement.Statement.{Statement}
 use Rattle.al_history.specs.declared.statement.Statement.TheVariants as statements
@@ -72,9 +72,6 @@ rollback_none statement acts o state reply count answers is = absurd answers
 -- a Done ends a block only where no transaction is open
 after_done : (terms : Terms) (o h : Option ℕ) (acts : List ℕ) (state : BlockState) (statement : Option Statement) (reply : Reply) (x : ℕ) → Answers statement acts o state reply → (if_no_block state o ≡ Some x → HasFirst terms h) → if_no_block (block_after reply state) o ≡ Some x → HasFirst terms h
 after_done terms o h acts state statement (replies.Rows entry) x answers before is = before is
-after_done terms o h acts state statement (replies.Tag tags.Insert count) x answers before is = before is
-after_done terms o h acts state statement (replies.Tag tags.CreateTable count) x answers before is = before is
-after_done terms o h acts state statement (replies.Tag tags.AlterTable count) x answers before is = before is
 after_done terms o h acts NoBlock statement (replies.Tag tags.Begin count) x answers before is = absurd (let wrong : ◌≡◌ {A = Option ℕ} None (Some x) = is in cc)
 after_done terms o h acts OpenBlock statement (replies.Tag tags.Begin count) x answers before is = absurd (let wrong : ◌≡◌ {A = Option ℕ} None (Some x) = is in cc)
 after_done terms o h acts (FailedBlock refuse) statement (replies.Tag tags.Begin count) x answers before is = absurd (let wrong : ◌≡◌ {A = Option ℕ} None (Some x) = is in cc)
@@ -84,6 +81,7 @@ after_done terms o h acts state statement (replies.Tag tags.Commit count) x answ
 after_done terms o h acts state statement (replies.Tag tags.Rollback count) x answers before is =
     let none : o ≡ None = rollback_none statement acts o state (replies.Tag tags.Rollback count) count answers refl in
     absurd (let wrong : ◌≡◌ {A = Option ℕ} None (Some x) = sym none ∙ is in cc)
+after_done terms o h acts state statement (replies.Tag tag count) x answers before is = before is
 
 failed_still : (state : BlockState) (place : ℕ) (o : Option ℕ) (x : ℕ) → if_no_block (failed_at place state) o ≡ Some x → if_no_block state o ≡ Some x
 failed_still NoBlock place o x is = is

@@ -4,7 +4,7 @@ use Rattle.std.specs.Prelude.{◌==◌, ◌||◌, is_some, not, ◌&&◌, Result
 use Rattle.std.specs.Cmp.Lexicographic.{same_text}
 use Rattle.std.proofs.lemmas.Cmp.{nat_list_eq_equiv}
 use Rattle.al_values.specs.declared.scalar.Value.{Value}
-use Rattle.al_history.specs.declared.entry.Cause.{Cause}
+use Rattle.al_statements.specs.declared.cause.Cause.{Cause}
 use Rattle.al_history.specs.declared.entry.Entry.TheVariants.{Make, Add, Alter}
 use Rattle.al_history.specs.declared.statement.Column.{Column}
 use Rattle.al_history.specs.declared.statement.Statement.{Statement}

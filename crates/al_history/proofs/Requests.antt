@@ -6,7 +6,7 @@ use Rattle.std.proofs.lemmas.Bool.{eq-eqb, eqb-true, and_parts, or_parts, or_fro
 use Rattle.al_modes.specs.declared.mode.Mode.{Mode}
 use Rattle.al_history.specs.declared.entry.Want.{Want}
 use Rattle.al_history.specs.declared.entry.Want.TheVariants as wants
-use Rattle.al_history.specs.declared.entry.Reply.{Reply}
+use Rattle.al_statements.specs.declared.reply.Reply.{Reply}
 use Rattle.al_history.specs.declared.entry.Entry.{Entry}
 use Rattle.al_history.specs.declared.entry.Entry.TheVariants.{Give, Start, Wait, Lock, Look, Make, Add, Read, Alter, Done, Refuse, Commit, Abort, Cancel, End, Close}
 use Rattle.al_history.specs.declared.statement.Statement.{Statement}

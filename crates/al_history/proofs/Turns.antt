@@ -4,8 +4,8 @@ use Rattle.std.specs.Prelude.{◌==◌, ◌⊎◌, ◌&&◌, is_some, Option}
 use Rattle.al_values.specs.declared.scalar.Value.{Value}
 use Rattle.al_modes.specs.declared.level.Level.{Level}
 use Rattle.al_modes.specs.declared.mode.Mode.{Mode}
-use Rattle.al_history.specs.declared.entry.Cause.{Cause}
-use Rattle.al_history.specs.declared.entry.Reply.{Reply}
+use Rattle.al_statements.specs.declared.cause.Cause.{Cause}
+use Rattle.al_statements.specs.declared.reply.Reply.{Reply}
 use Rattle.al_history.specs.declared.entry.Rewritten.{Rewritten}
 use Rattle.al_history.specs.declared.entry.Entry.{Entry}
 use Rattle.al_history.specs.declared.entry.Entry.TheVariants.{Start, Wait, Lock, Look, Make, Add, Read, Alter, Done, Refuse, Commit, Abort, End}

@@ -5,8 +5,8 @@ use Rattle.std.proofs.lemmas.Bool.{leb-true}
 use Rattle.std.proofs.lemmas.List.{length-map}
 use Rattle.al_values.specs.declared.scalar.Value.{Value}
 use Rattle.al_modes.specs.declared.mode.Mode.{Mode}
-use Rattle.al_history.specs.declared.entry.Cause.TheVariants as causes
-use Rattle.al_history.specs.declared.entry.RunLimit.TheVariants as limits
+use Rattle.al_statements.specs.declared.cause.Cause.TheVariants as causes
+use Rattle.al_statements.specs.declared.cause.RunLimit.TheVariants as limits
 use Rattle.al_history.specs.declared.entry.Entry.TheVariants.{Wait, Lock, Look, Make, Add, Read, Alter}
 use Rattle.al_history.specs.declared.entry.Want.TheVariants as wants
 use Rattle.al_history.specs.declared.entry.Rewritten.{Rewritten}

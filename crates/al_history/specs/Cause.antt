@@ -2,13 +2,13 @@
 use Rattle.std.specs.Prelude.{ℕ, List, [], ◌∷◌, ◌++◌, ◌+◌, ◌==◌, Bool, true, false, cond, length, nat_lt, nat_le, Option, Some, None, is_some, option_map, option_and_then, Result, Ok, Err}
 use Rattle.std.specs.List.{list_any}
 use Rattle.al_values.specs.declared.scalar.Value.{Value}
-use Rattle.al_history.specs.declared.entry.RunLimit.TheVariants as limits
-use Rattle.al_history.specs.declared.entry.Cause.{Cause}
-use Rattle.al_history.specs.declared.entry.Cause.TheVariants as causes
+use Rattle.al_statements.specs.declared.cause.RunLimit.TheVariants as limits
+use Rattle.al_statements.specs.declared.cause.Cause.{Cause}
+use Rattle.al_statements.specs.declared.cause.Cause.TheVariants as causes
 use Rattle.al_history.specs.declared.entry.Entry.TheVariants.{Make, Cancel}
 use Rattle.al_history.specs.declared.statement.Column.{Column}
-use Rattle.al_history.specs.declared.statement.SqlFault.{SqlFault}
-use Rattle.al_history.specs.declared.statement.SqlFault.TheVariants as faults
+use Rattle.al_statements.specs.declared.fault.SqlFault.{SqlFault}
+use Rattle.al_statements.specs.declared.fault.SqlFault.TheVariants as faults
 use Rattle.al_history.specs.declared.statement.Statement.{Statement}
 use Rattle.al_history.specs.declared.statement.Statement.TheVariants as statements
 use Rattle.al_history.specs.declared.statement.Terms.{Terms}

@@ -4,11 +4,11 @@ use Rattle.al_values.specs.declared.scalar.Value.{Value}
 use Rattle.al_modes.specs.declared.level.Level.{Level}
 use Rattle.al_modes.specs.declared.mode.Mode.{Mode}
 use Rattle.al_modes.specs.declared.level.Level.TheVariants as levels
-use Rattle.al_history.specs.declared.entry.Tag.{Tag}
-use Rattle.al_history.specs.declared.entry.Tag.TheVariants as tags
-use Rattle.al_history.specs.declared.entry.Reply.{Reply}
-use Rattle.al_history.specs.declared.entry.Reply.TheVariants as replies
-use Rattle.al_history.specs.declared.entry.Cause.{Cause}
+use Rattle.al_statements.specs.declared.reply.Tag.{Tag}
+use Rattle.al_statements.specs.declared.reply.Tag.TheVariants as tags
+use Rattle.al_statements.specs.declared.reply.Reply.{Reply}
+use Rattle.al_statements.specs.declared.reply.Reply.TheVariants as replies
+use Rattle.al_statements.specs.declared.cause.Cause.{Cause}
 use Rattle.al_history.specs.declared.entry.Rewritten.{Rewritten}
 use Rattle.al_history.specs.declared.entry.Entry.{Entry}
 use Rattle.al_history.specs.declared.entry.Want.{Want}

@@ -9,11 +9,12 @@ mod statement;
 
 pub use al_modes::{Level, Mode};
 pub use al_spec::{Block, BlockList, Part, PermutationList, Spec, SpecFault, SpecLimit};
+pub use al_statements::{Cause, Reply, RunLimit, SqlFault, Tag};
 use al_values::ListOf;
-pub use entry::{Cause, Entry, NumberedRow, Reply, Rewritten, RunLimit, Tag, Want};
+pub use entry::{Entry, NumberedRow, Rewritten, Want};
 pub use history::History;
 pub use run::{Run, Setup};
-pub use statement::{Column, ScriptBlock, Scripts, SqlFault, Statement, Terms};
+pub use statement::{Column, ScriptBlock, Scripts, Statement, Terms};
 
 /// The columns of a table, in order.
 pub type Shape = ListOf<Column>;

@@ -1,4 +1,5 @@
 use crate::{Script, ScriptList};
+use al_statements::SqlFault;
 use al_values::{Copied, Name, NameList, NoMemory, Row, Value};
 use std::alloc::Global;
 
@@ -54,21 +55,6 @@ pub enum Statement {
         table: Name,
         /// The new column.
         column: Column,
-    },
-}
-
-/// Why a text is no script, and at which byte.
-#[derive(Clone, Copy, Debug, PartialEq, Eq, Drop)]
-pub enum SqlFault {
-    /// A token that can't stand there, or the text's length where it ends too early.
-    Syntax {
-        /// The byte.
-        at: u32,
-    },
-    /// A form that isn't built.
-    NotInProfile {
-        /// The byte.
-        at: u32,
     },
 }
 

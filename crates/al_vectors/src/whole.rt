@@ -345,9 +345,9 @@ setup 1
 CREATE TABLE
 INSERT 0 1
 step x: SELEC 1;
-ERROR: 0A000: not supported at byte 0
+ERROR: 42601: syntax error at byte 0
 step y: SELECT * FROM t; SELEC
-ERROR: 0A000: not supported at byte 0
+ERROR: 42601: syntax error at byte 17
 ",
     ),
     // In an open one it aborts, and the block stays failed.
@@ -369,7 +369,7 @@ step b: BEGIN; INSERT INTO t VALUES (2)
 BEGIN
 INSERT 0 1
 step x: SELEC
-ERROR: 0A000: not supported at byte 0
+ERROR: 42601: syntax error at byte 0
 step y: SELECT * FROM t
 ERROR: 25P02: transaction block has failed
 step c: COMMIT
@@ -397,7 +397,7 @@ step b: BEGIN; SELECT * FROM u
 BEGIN
 ERROR: 42P01: table \"u\" does not exist
 step x: SELEC
-ERROR: 0A000: not supported at byte 0
+ERROR: 42601: syntax error at byte 0
 ",
     ),
     // Scripts without a statement.
@@ -672,7 +672,7 @@ starting permutation: x
 setup 1
 CREATE TABLE
 setup 2
-ERROR: 0A000: not supported at byte 0
+ERROR: 0A000: not supported at byte 18
 setup failed
 ",
     ),

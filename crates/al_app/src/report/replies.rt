@@ -2,73 +2,28 @@
 ghost use Rattle.std.specs.Prelude.{◌≡◌, ◌++◌, codes, flat_map, OnOk, string_bytes};
 ghost use Rattle.std.specs.List.{join_by};
 ghost use Rattle.al_values.specs.Printed.{printed};
-ghost use Rattle.al_app.specs.Report.{refusal_text, reply_text, rows_text, row_text, row_count_text, tag_text, cause_text, limit_name, syntax_text, not_built_text, many_values_text};
+ghost use Rattle.al_app.specs.Report.{refusal_text, reply_text, rows_text, row_text, row_count_text, tag_text};
 
-use al_history::{Cause, Entry, Reply, RunLimit, Tag};
+use crate::report::causes::push_cause;
+use al_history::{Cause, Entry, Reply, Tag};
 use al_values::{Name, NoMemory, Row, Value};
-
-fn push_cause(text: &mut String, cause: &Cause) -> Result<(), NoMemory>
-    ensures ok { OnOk result
-        (string_bytes text.new ≡ string_bytes text.old ++ cause_text cause.now) }
-{
-    match cause {
-        Cause::Syntax { at } => push_syntax(text, *at)?,
-        Cause::NotInProfile { at } => push_not_built(text, *at)?,
-        Cause::NoTable { name } => write!(text, "42P01: table \"{name}\" does not exist")?,
-        Cause::TwiceTable { name } => write!(text, "42P07: table \"{name}\" already exists")?,
-        Cause::TwiceColumn { name } => write!(text, "42701: column \"{name}\" already exists")?,
-        Cause::Count { want, got } => push_many_values(text, *want, *got)?,
-        Cause::BlockFailed { .. } => write!(text, "25P02: transaction block has failed")?,
-        Cause::Limit { what, .. } => {
-            write!(text, "54000: limit of {} passed", limit_name(*what))?;
-        }
-        Cause::Cancelled { .. } => write!(text, "57014: cancelled")?,
-    }
-    Ok(())
-}
-
-fn limit_name(what: RunLimit) -> &'static str
-    ensures { result.now ≡ limit_name what }
-{
-    match what {
-        RunLimit::Tables => "tables",
-        RunLimit::Columns => "columns",
-        RunLimit::Journal => "journal",
-    }
-}
-
-fn push_syntax(text: &mut String, at: u32) -> Result<(), NoMemory>
-    ensures ok { OnOk result (string_bytes text.new ≡ string_bytes text.old ++ syntax_text at) }
-{
-    write!(text, "42601: syntax error at byte {at}")?;
-    Ok(())
-}
-
-fn push_not_built(text: &mut String, at: u32) -> Result<(), NoMemory>
-    ensures ok { OnOk result (string_bytes text.new ≡ string_bytes text.old ++ not_built_text at) }
-{
-    write!(text, "0A000: not supported at byte {at}")?;
-    Ok(())
-}
-
-fn push_many_values(text: &mut String, want: u32, got: u32) -> Result<(), NoMemory>
-    ensures ok { OnOk result
-        (string_bytes text.new ≡ string_bytes text.old ++ many_values_text want got) }
-{
-    write!(text, "42601: INSERT has {got} values for {want} columns")?;
-    Ok(())
-}
 
 fn push_tag(text: &mut String, tag: Tag, count: u32) -> Result<(), NoMemory>
     ensures ok { OnOk result (string_bytes text.new ≡ string_bytes text.old ++ tag_text tag count) }
 {
     match tag {
         Tag::Begin => text.push_str("BEGIN")?,
+        Tag::StartTransaction => text.push_str("START TRANSACTION")?,
         Tag::Commit => text.push_str("COMMIT")?,
         Tag::Rollback => text.push_str("ROLLBACK")?,
+        Tag::Set => text.push_str("SET")?,
+        Tag::LockTable => text.push_str("LOCK TABLE")?,
         Tag::CreateTable => text.push_str("CREATE TABLE")?,
+        Tag::DropTable => text.push_str("DROP TABLE")?,
         Tag::AlterTable => text.push_str("ALTER TABLE")?,
         Tag::Insert => write!(text, "INSERT 0 {count}")?,
+        Tag::Update => write!(text, "UPDATE {count}")?,
+        Tag::Delete => write!(text, "DELETE {count}")?,
     }
     Ok(())
 }

@@ -2,9 +2,9 @@
 use Rattle.std.specs.Prelude.{◌≡◌, List, [], ◌∷◌, ◌++◌, refl, reverse}
 use Rattle.std.proofs.Common.{inl, inr, arith}
 use Rattle.al_modes.specs.declared.level.Level.TheVariants as levels
-use Rattle.al_history.specs.declared.entry.Tag.TheVariants as tags
-use Rattle.al_history.specs.declared.entry.Reply.TheVariants as replies
-use Rattle.al_history.specs.declared.entry.Cause.TheVariants as causes
+use Rattle.al_statements.specs.declared.reply.Tag.TheVariants as tags
+use Rattle.al_statements.specs.declared.reply.Reply.TheVariants as replies
+use Rattle.al_statements.specs.declared.cause.Cause.TheVariants as causes
 use Rattle.al_history.specs.declared.entry.Entry.{Entry}
 use Rattle.al_history.specs.declared.entry.Entry.TheVariants.{Give, Start, Look, Make, Done, Refuse, Commit, Abort, Cancel, End, Close}
 use Rattle.al_history.specs.declared.statement.Statement.TheVariants as statements

@@ -2,7 +2,7 @@
 use Rattle.std.specs.Prelude.{[], ◌∷◌, refl}
 use Rattle.std.proofs.Common.{arith, inl, inr}
 use Rattle.al_modes.specs.declared.level.Level.TheVariants as levels
-use Rattle.al_history.specs.declared.entry.Cause.TheVariants as causes
+use Rattle.al_statements.specs.declared.cause.Cause.TheVariants as causes
 use Rattle.al_history.specs.declared.entry.Entry.TheVariants.{Give, Start, Refuse, Abort, Cancel, End}
 use Rattle.al_history.specs.Legal.{IsLegal}
 use Rattle.al_history.proofs.Worked.Journals.{name_t, insert}

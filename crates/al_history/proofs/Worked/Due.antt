@@ -1,6 +1,6 @@
 -- What the driver does next, on small pasts.
 use Rattle.std.specs.Prelude.{◌≡◌, [], ◌∷◌, Some, None, codes, refl}
-use Rattle.al_history.specs.declared.entry.Cause.TheVariants as causes
+use Rattle.al_statements.specs.declared.cause.Cause.TheVariants as causes
 use Rattle.al_history.specs.declared.entry.Entry.TheVariants.{Give, Refuse, Cancel, End, Close}
 use Rattle.al_spec.specs.declared.spec.Part.TheVariants as parts
 use Rattle.al_spec.specs.declared.spec.Spec.{Spec}

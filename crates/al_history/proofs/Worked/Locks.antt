@@ -4,9 +4,9 @@ use Rattle.std.proofs.Common.{arith, inl, inr}
 use Rattle.al_modes.specs.declared.level.Level.TheVariants as levels
 use Rattle.al_modes.specs.declared.mode.Mode.{Mode}
 use Rattle.al_modes.specs.declared.mode.Mode.TheVariants.{AccessShare, RowExclusive, AccessExclusive}
-use Rattle.al_history.specs.declared.entry.Tag.TheVariants as tags
-use Rattle.al_history.specs.declared.entry.Reply.TheVariants as replies
-use Rattle.al_history.specs.declared.entry.Cause.TheVariants as causes
+use Rattle.al_statements.specs.declared.reply.Tag.TheVariants as tags
+use Rattle.al_statements.specs.declared.reply.Reply.TheVariants as replies
+use Rattle.al_statements.specs.declared.cause.Cause.TheVariants as causes
 use Rattle.al_history.specs.declared.entry.Want.TheVariants as wants
 use Rattle.al_history.specs.declared.entry.Entry.{Entry}
 use Rattle.al_history.specs.declared.entry.Entry.TheVariants.{Give, Start, Wait, Lock, Look, Make, Add, Read, Alter, Done, Refuse, Commit, Abort, Cancel, End}

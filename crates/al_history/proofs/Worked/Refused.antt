@@ -3,10 +3,10 @@ use Rattle.std.specs.Prelude.{◌≡◌, ℕ, [], ◌∷◌, ◌++◌, Option, S
 use Rattle.std.proofs.Common.{arith, ap, inl, inr}
 use Rattle.al_values.specs.declared.scalar.Value.TheVariants as values
 use Rattle.al_modes.specs.declared.level.Level.TheVariants as levels
-use Rattle.al_history.specs.declared.entry.Tag.TheVariants as tags
-use Rattle.al_history.specs.declared.entry.Reply.TheVariants as replies
-use Rattle.al_history.specs.declared.entry.Cause.{Cause}
-use Rattle.al_history.specs.declared.entry.Cause.TheVariants as causes
+use Rattle.al_statements.specs.declared.reply.Tag.TheVariants as tags
+use Rattle.al_statements.specs.declared.reply.Reply.TheVariants as replies
+use Rattle.al_statements.specs.declared.cause.Cause.{Cause}
+use Rattle.al_statements.specs.declared.cause.Cause.TheVariants as causes
 use Rattle.al_history.specs.declared.entry.Entry.TheVariants.{Give, Start, Look, Make, Add, Done, Refuse, Commit, Abort, End}
 use Rattle.al_history.specs.declared.statement.Statement.{Statement}
 use Rattle.al_history.specs.declared.statement.Statement.TheVariants as statements
@@ -22,16 +22,10 @@ refused_for_nothing l = none_some l.0.rule.first_true
 
 -- the first byte of the name that a cause tells
 abbrev letter : Option Cause → ℕ
-letter None = 0
-letter (Some (causes.Syntax at)) = 0
-letter (Some (causes.NotInProfile at)) = 0
 letter (Some (causes.NoTable name)) = slice_index name 0
 letter (Some (causes.TwiceTable name)) = slice_index name 0
 letter (Some (causes.TwiceColumn name)) = slice_index name 0
-letter (Some (causes.Count want got)) = 0
-letter (Some (causes.BlockFailed refuse)) = 0
-letter (Some (causes.Limit what count)) = 0
-letter (Some (causes.Cancelled entry)) = 0
+letter cause = 0
 
 -- a statement is refused for a name that isn't the one in the way
 refused_for_other_name : IsLegal again (looked_again ++ Refuse 0 (causes.TwiceTable name_u) ∷ []) → ⊥

@@ -7,10 +7,10 @@ use Rattle.al_spec.specs.declared.spec.Block.{Block}
 use Rattle.al_spec.specs.declared.spec.Part.{Part}
 use Rattle.al_spec.specs.declared.spec.Part.TheVariants as parts
 use Rattle.al_spec.specs.declared.spec.Spec.{Spec}
-use Rattle.al_history.specs.declared.entry.Tag.TheVariants as tags
-use Rattle.al_history.specs.declared.entry.Reply.TheVariants as replies
+use Rattle.al_statements.specs.declared.reply.Tag.TheVariants as tags
+use Rattle.al_statements.specs.declared.reply.Reply.TheVariants as replies
 use Rattle.al_history.specs.declared.entry.Want.TheVariants as wants
-use Rattle.al_history.specs.declared.entry.Cause.TheVariants as causes
+use Rattle.al_statements.specs.declared.cause.Cause.TheVariants as causes
 use Rattle.al_history.specs.declared.entry.Entry.{Entry}
 use Rattle.al_history.specs.declared.entry.Entry.TheVariants.{Give, Start, Wait, Look, Make, Done, Refuse, Abort, Cancel, End, Close}
 use Rattle.al_history.specs.declared.run.Setup.TheVariants as setups

@@ -3,9 +3,9 @@ use Rattle.std.specs.Prelude.{zero, suc, ◌≤◌, true, ℕ, List, [], ◌∷�
 use Rattle.std.proofs.Common.{arith, inl, inr}
 use Rattle.al_modes.specs.declared.level.Level.TheVariants as levels
 use Rattle.al_modes.specs.declared.mode.Mode.TheVariants.{AccessShare, AccessExclusive}
-use Rattle.al_history.specs.declared.entry.Tag.TheVariants as tags
-use Rattle.al_history.specs.declared.entry.Reply.TheVariants as replies
-use Rattle.al_history.specs.declared.entry.Cause.TheVariants as causes
+use Rattle.al_statements.specs.declared.reply.Tag.TheVariants as tags
+use Rattle.al_statements.specs.declared.reply.Reply.TheVariants as replies
+use Rattle.al_statements.specs.declared.cause.Cause.TheVariants as causes
 use Rattle.al_history.specs.declared.entry.Entry.{Entry}
 use Rattle.al_history.specs.declared.entry.Entry.TheVariants.{Give, Start, Lock, Look, Read, Alter, Done, Refuse, Abort, Commit, End, Close}
 use Rattle.al_spec.specs.declared.spec.Spec.{Spec}

@@ -3,9 +3,9 @@ use Rattle.std.specs.Prelude.{◌≡◌, ℕ, List, [], ◌∷◌, ◌++◌, ◌
 use Rattle.std.proofs.Common.{inl, inr, arith, ap}
 use Rattle.al_values.specs.declared.scalar.Value.TheVariants as values
 use Rattle.al_modes.specs.declared.level.Level.TheVariants as levels
-use Rattle.al_history.specs.declared.entry.Tag.TheVariants as tags
-use Rattle.al_history.specs.declared.entry.Reply.{Reply}
-use Rattle.al_history.specs.declared.entry.Reply.TheVariants as replies
+use Rattle.al_statements.specs.declared.reply.Tag.TheVariants as tags
+use Rattle.al_statements.specs.declared.reply.Reply.{Reply}
+use Rattle.al_statements.specs.declared.reply.Reply.TheVariants as replies
 use Rattle.al_history.specs.declared.entry.Entry.TheVariants.{Give, Start, Look, Make, Add, Read, Alter, Done, Commit, End, Close}
 use Rattle.al_history.specs.Legal.{IsLegal}
 use Rattle.al_history.proofs.Worked.Journals.{terms_of, name_t, name_a, name_b, int, column_a, column_b, insert, alone, terms, given_create, started_create, looked_create, acted_create, done_create, ended_create, looked_insert, acted_insert, done_insert, looked_alter, looked_select, acted_select, ended_select}

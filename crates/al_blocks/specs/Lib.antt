@@ -1,4 +1,0 @@
-pub mod Steps
-pub mod Lexemes
-pub mod Blocks
-pub mod Reading
