@@ -1,0 +1,4 @@
+pub mod Origins
+pub mod Rows
+pub mod Progress
+pub mod GoingOn
