@@ -1,8 +1,8 @@
 -- An implicit transaction is of a step in hand that has a statement.
-use Rattle.std.proofs.Common.{◌≡◌, ℕ, ◌+◌, zero, suc, List, [], ◌∷◌, length, refl, sym, ap, cond, true, false, Bool, Option, Some, None, ◌∙◌}
-use Rattle.std.specs.Prelude.{◌==◌, IsSome, is_some, option_map, option_and_then, slice_get, Result, Ok, Err}
+use Rattle.std.proofs.Common.{◌≡◌, ℕ, List, [], ◌∷◌, length, refl, sym, cond, true, false, Bool, Option, Some, None, ◌∙◌}
+use Rattle.std.specs.Prelude.{◌==◌, IsSome, option_map, option_and_then, slice_get, Result, Ok, Err}
 use Rattle.std.proofs.lemmas.Bool.{eqb-true}
-use Rattle.al_history.specs.declared.entry.Entry.TheVariants.{Give, Start, Wait, Lock, Look, Make, Add, Read, Alter, Done, Refuse, Commit, Abort, Cancel, End, Close}
+use Rattle.al_history.specs.declared.entry.Entry.TheVariants.{Give, Start, Done, Refuse, Commit, Abort, End}
 use Rattle.al_statements.specs.declared.reply.Reply.{Reply}
 use Rattle.al_statements.specs.declared.reply.Reply.TheVariants as replies
 use Rattle.al_statements.specs.declared.reply.Tag.TheVariants as tags

@@ -24,3 +24,9 @@ pub mod Stays
 pub mod Turns
 pub mod Unblocked
 pub mod Weights
+pub mod PartRows
+pub mod PartTables
+pub mod PartSights
+pub mod PartServe
+pub mod Quiets
+pub mod MadeNames

@@ -101,7 +101,7 @@ made_slots P x (c ∷ columns) own = (own, made_slots P x columns own)
 abbrev pub Began : Past → ℕ → Type 0
 Began past z = is_start past z ≡ true
 
-began_more : (place : ℕ) (b : Bool) (z : ℕ) → b ≡ true → cond (place == z) true b ≡ true
+pub began_more : (place : ℕ) (b : Bool) (z : ℕ) → b ≡ true → cond (place == z) true b ≡ true
 began_more place b z began = by_test (place == z) where
   by_test : (c : Bool) → cond c true b ≡ true
   by_test true = refl

@@ -54,7 +54,7 @@ pub record Keeps (g : Table → Table) : Type 0 where
   pub number : (t : Table) → (g t).number ≡ t.number
   pub name : (t : Table) → (g t).name ≡ t.name
 
-some_with : (number : ℕ) (g : Table → Table) (db : Database) (name : List ℕ) → Keeps g → is_some (named (with_table number g db) name) ≡ is_some (named db name)
+pub some_with : (number : ℕ) (g : Table → Table) (db : Database) (name : List ℕ) → Keeps g → is_some (named (with_table number g db) name) ≡ is_some (named db name)
 some_with number g [] name keeps = refl
 some_with number g (t ∷ db) name keeps = by_test (t.number == number) (some_with number g db name keeps) where
   by_name : (b : Bool) → is_some (named (with_table number g db) name) ≡ is_some (named db name) → is_some (cond b (Some t) (named (with_table number g db) name)) ≡ is_some (cond b (Some t) (named db name))

@@ -1,6 +1,6 @@
 -- What an entry's rule tells of its statement and of the locks that it holds.
 use Rattle.std.proofs.Common.{◌≡◌, ℕ, List, [], ◌∷◌, refl, cond, true, false, Bool, Option, Some, None}
-use Rattle.std.specs.Prelude.{◌++◌, Ok, Err, option_and_then}
+use Rattle.std.specs.Prelude.{◌++◌, option_and_then}
 use Rattle.al_values.specs.declared.scalar.Value.{Value}
 use Rattle.al_modes.specs.declared.mode.Mode.{Mode}
 use Rattle.al_modes.specs.declared.mode.Mode.TheVariants.{AccessShare, RowExclusive, AccessExclusive}

@@ -49,10 +49,10 @@ owned_more past after (t ∷ tables) more made owned = (slots t.slots made.0.1 o
   slots [] began owned = tt
   slots (slot ∷ rest) began owned = (more t.number t.maker slot.maker began.0 owned.0, slots rest began.1 owned.1)
 
-owned_start : (past : Past) (r place n m y : ℕ) → length past ≡ place → Began past y → IsOwned past n m y → fate past y ≡ Open → (y ≡ m) ⊎ (is_held (held past) (sole_claim (cond (place == y) r (session_of past y)) n) ≡ true)
+pub owned_start : (past : Past) (r place n m y : ℕ) → length past ≡ place → Began past y → IsOwned past n m y → fate past y ≡ Open → (y ≡ m) ⊎ (is_held (held past) (sole_claim (cond (place == y) r (session_of past y)) n) ≡ true)
 owned_start past r place n m y at began owned undecided = let other : (place == y) ≡ false = ne_eqb place y (λ e. omega (arith, began_below past y began)) in rw other (owned undecided)
 
-owned_lock : (past : Past) (c : Claim) (n m y : ℕ) → IsOwned past n m y → fate past y ≡ Open → (y ≡ m) ⊎ (is_held (held past ++ c ∷ []) (sole_claim (session_of past y) n) ≡ true)
+pub owned_lock : (past : Past) (c : Claim) (n m y : ℕ) → IsOwned past n m y → fate past y ≡ Open → (y ≡ m) ⊎ (is_held (held past ++ c ∷ []) (sole_claim (session_of past y) n) ≡ true)
 owned_lock past c n m y owned undecided = by_case (owned undecided) where
   by_case : (y ≡ m) ⊎ (is_held (held past) (sole_claim (session_of past y) n) ≡ true) → (y ≡ m) ⊎ (is_held (held past ++ c ∷ []) (sole_claim (session_of past y) n) ≡ true)
   by_case (inl own) = inl own
@@ -73,13 +73,13 @@ owned_end terms past x n m y legal own other began owned undecided = by_case (ow
   by_case (inl own) = inl own
   by_case (inr there) = inr (held_besides (session_of past x) (held past) (sole_claim (session_of past y) n) apart there)
 
-owned_commit : (terms : Terms) (past : Past) (x n m y : ℕ) → Legal terms past → xact_of past (session_of past x) ≡ Some x → Began past y → IsOwned past n m y → IsOwned (Commit x ∷ past) n m y
+pub owned_commit : (terms : Terms) (past : Past) (x n m y : ℕ) → Legal terms past → xact_of past (session_of past x) ≡ Some x → Began past y → IsOwned past n m y → IsOwned (Commit x ∷ past) n m y
 owned_commit terms past x n m y legal own began owned undecided = by_test (x == y) refl undecided where
   by_test : (b : Bool) → (x == y) ≡ b → cond b Committed (fate past y) ≡ Open → (y ≡ m) ⊎ (is_held (without (session_of past x) (held past)) (sole_claim (session_of past y) n) ≡ true)
   by_test true here undecided = absurd cc
   by_test false here undecided = owned_end terms past x n m y legal own here began owned undecided
 
-owned_abort : (terms : Terms) (past : Past) (x n m y : ℕ) → Legal terms past → xact_of past (session_of past x) ≡ Some x → Began past y → IsOwned past n m y → IsOwned (Abort x ∷ past) n m y
+pub owned_abort : (terms : Terms) (past : Past) (x n m y : ℕ) → Legal terms past → xact_of past (session_of past x) ≡ Some x → Began past y → IsOwned past n m y → IsOwned (Abort x ∷ past) n m y
 owned_abort terms past x n m y legal own began owned undecided = by_test (x == y) refl undecided where
   by_test : (b : Bool) → (x == y) ≡ b → cond b Aborted (fate past y) ≡ Open → (y ≡ m) ⊎ (is_held (without (session_of past x) (held past)) (sole_claim (session_of past y) n) ≡ true)
   by_test true here undecided = absurd cc

@@ -17,7 +17,7 @@ use Rattle.al_history.specs.Database.{Table, named}
 use Rattle.al_history.specs.Fate.{is_that}
 use Rattle.al_history.specs.Hand.{hand, refused, in_hand, xact_of, session_of, look_of, acts_of, BlockState, block_state}
 use Rattle.al_history.specs.Cause.{used_name}
-use Rattle.al_history.specs.Locks.{Claim, claim, same_claim, without, held, waiting, grantable, is_settled, is_held, without_claim, is_waiting, is_grant}
+use Rattle.al_history.specs.Locks.{Claim, claim, same_claim, without, held, waiting, grantable, is_settled, is_held, without_claim, is_grant}
 use Rattle.al_history.specs.Waits.{wanted_by, can_go_on, holds_up}
 use Rattle.al_history.specs.Need.{lacking}
 use Rattle.al_history.specs.View.{latest}

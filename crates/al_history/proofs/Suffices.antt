@@ -184,6 +184,10 @@ locks_suffice terms (Commit x ∷ past) legal = ((xact_is terms past (session_of
 locks_suffice terms (Abort x ∷ past) legal = ((xact_is terms past (session_of past x) x legal.1 legal.0.rule.open_xact).undecided, locks_suffice terms past legal.1)
 locks_suffice terms (e ∷ past) legal = locks_suffice terms past legal.1
 
+-- a new row has a value for each column that its maker finds
+pub one_value_each : (terms : Terms) (past : Past) (x table : ℕ) (row : List Value) → Legal terms past → Follows (owed terms past) (Add x table row) → AddRule terms past x table row → (is : IsInsertion (in_hand terms past (session_of past x)) (latest terms past x) table row) → length row ≡ length is.t.columns
+one_value_each terms past x table row legal follows rule is = ap length is.filled_so ∙ (length_filled is.t.columns is.written (values_fit terms past x table row is.name is.written is.t legal (locks_suffice terms past legal) follows rule is.is is.found))
+
 -- ---- what follows for readers
 
 -- the latest database of a session's transaction is what the one list shows it

@@ -8,6 +8,7 @@ pub mod Limit
 pub mod Locks
 pub mod LocksWrong
 pub mod Names
+pub mod OlderSights
 pub mod Queues
 pub mod Refused
 pub mod Rules

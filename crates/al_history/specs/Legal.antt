@@ -1,7 +1,7 @@
 -- Legal histories of a one-thread multiversion machine.
 use Rattle.std.specs.Prelude.{◌≡◌, ℕ, List, [], ◌∷◌, reverse, Bool, true, false, Contains, flat_map, cond, ◌==◌, ◌||◌, Option, Some, None}
 use Rattle.al_history.specs.declared.entry.Entry.{Entry}
-use Rattle.al_history.specs.declared.entry.Entry.TheVariants.{Give, Start, Wait, Lock, Look, Make, Add, Read, Alter, Done, Refuse, Commit, Abort, Cancel, End, Close}
+use Rattle.al_history.specs.declared.entry.Entry.TheVariants.{Give, Lock, Abort, Cancel, Close}
 use Rattle.al_history.specs.declared.statement.Terms.{Terms}
 use Rattle.al_history.specs.Past.{Past}
 use Rattle.al_history.specs.Constraint.{Constraint}

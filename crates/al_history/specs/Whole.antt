@@ -1,7 +1,7 @@
 -- The journal of a whole run: what the driver gives and closes, and who goes on in between (src/test/isolation/README).
-use Rattle.std.specs.Prelude.{◌≡◌, ℕ, zero, suc, List, [], ◌∷◌, ◌++◌, ◌+◌, ◌<◌, ◌≤◌, ◌||◌, nat_le, Bool, true, false, not, cond, length, Option, Some, None, is_some, slice_get, option_map, unwrap_or, option_and_then, map, flat_map}
+use Rattle.std.specs.Prelude.{◌≡◌, ℕ, zero, suc, List, [], ◌∷◌, ◌++◌, ◌+◌, ◌<◌, ◌≤◌, Bool, true, false, cond, length, Option, Some, None, is_some, slice_get, option_map, unwrap_or, option_and_then, map, flat_map}
 use Rattle.al_history.specs.declared.entry.Entry.{Entry}
-use Rattle.al_history.specs.declared.entry.Entry.TheVariants.{Give, Start, Wait, Lock, Look, Make, Add, Read, Alter, Done, Refuse, Commit, Abort, Cancel, End, Close}
+use Rattle.al_history.specs.declared.entry.Entry.TheVariants.{Give, Lock, Refuse, Abort, Cancel, Close}
 use Rattle.al_spec.specs.declared.spec.Block.{Block}
 use Rattle.al_spec.specs.declared.spec.Part.{Part}
 use Rattle.al_spec.specs.declared.spec.Part.TheVariants as parts

@@ -4,6 +4,7 @@
 
 mod entry;
 mod history;
+mod laws;
 mod run;
 mod statement;
 
@@ -13,6 +14,7 @@ pub use al_statements::{Cause, Reply, RunLimit, SqlFault, Tag};
 use al_values::ListOf;
 pub use entry::{Entry, NumberedRow, Rewritten, Want};
 pub use history::History;
+pub use laws::parts_serve_readers;
 pub use run::{Run, Setup};
 pub use statement::{Column, ScriptBlock, Scripts, Statement, Terms};
 

@@ -1,5 +1,5 @@
 -- Journals with refusals that aren't legal.
-use Rattle.std.specs.Prelude.{◌≡◌, ℕ, [], ◌∷◌, ◌++◌, Option, Some, None, slice_index}
+use Rattle.std.specs.Prelude.{◌≡◌, ℕ, [], ◌∷◌, ◌++◌, Option, Some, slice_index}
 use Rattle.std.proofs.Common.{arith, ap, inl, inr}
 use Rattle.al_values.specs.declared.scalar.Value.TheVariants as values
 use Rattle.al_modes.specs.declared.level.Level.TheVariants as levels

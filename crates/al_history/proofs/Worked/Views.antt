@@ -21,10 +21,10 @@ use Rattle.al_history.proofs.Worked.Causes.{failed}
 use Rattle.al_history.proofs.Worked.Rules.{◌▸◌, may_give, may_start, may_lock, may_look, may_act, may_add, may_read, may_alter, may_be_done, may_refuse, may_commit, may_abort, may_end, no_more}
 
 -- the table t with a column a, and with the column b too
-abbrev narrow : List VersionedRow → Table
+abbrev pub narrow : List VersionedRow → Table
 narrow rows = record { number = 3; name = name_t; columns = column_a ∷ []; constraints = []; rows = rows }
 
-abbrev wide : List VersionedRow → Table
+abbrev pub wide : List VersionedRow → Table
 wide rows = record { number = 3; name = name_t; columns = column_a ∷ column_b ∷ []; constraints = []; rows = rows }
 
 -- a transaction is open until its Commit
