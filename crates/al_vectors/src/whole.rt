@@ -6,7 +6,7 @@ use std::process::Abort;
 use std::test::Fail;
 
 // Whole spec files over `SETUP`: how many sessions there are, what stands after the setup block, and what is told after the first line.
-const DONE: [(usize, &str, &str); 22] = [
+const DONE: [(usize, &str, &str); 23] = [
     // A teardown block that is refused: the run goes on.
     (
         1,
@@ -398,6 +398,36 @@ BEGIN
 ERROR: 42P01: table \"u\" does not exist
 step x: SELEC
 ERROR: 42601: syntax error at byte 0
+",
+    ),
+    // Values are expressions of constants, in whatever spelling.
+    (
+        1,
+        "session s1
+step w { INSERT INTO t VALUES (1,) }
+step x { insert into T values (-7 + 2 * 3) }
+step y { ALTER TABLE \"t\" ADD b integer DEFAULT CAST('8' AS integer) }
+step z { INSERT INTO t VALUES ('5', 40 / 7); SELECT * FROM t -- all }
+permutation w x y z
+",
+        "
+starting permutation: w x y z
+setup 1
+CREATE TABLE
+INSERT 0 1
+step w: INSERT INTO t VALUES (1,)
+ERROR: 42601: syntax error at byte 24
+step x: insert into T values (-7 + 2 * 3)
+INSERT 0 1
+step y: ALTER TABLE \"t\" ADD b integer DEFAULT CAST('8' AS integer)
+ALTER TABLE
+step z: INSERT INTO t VALUES ('5', 40 / 7); SELECT * FROM t -- all
+INSERT 0 1
+a|b
+1|8
+-1|8
+5|5
+(3 rows)
 ",
     ),
     // Scripts without a statement.
